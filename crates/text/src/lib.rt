@@ -2,4 +2,5 @@
 //!
 //! Has the definitions that both the loader and the writers keep to. Knows nothing of either.
 
+pub mod fault;
 pub mod line;

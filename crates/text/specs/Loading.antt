@@ -1,0 +1,53 @@
+-- Loading a sheet's text: the lengths in its first line, then the linkings of its other lines, up to the end or the first fault.
+use mathlib.Core.List.{List, [], _∷_}
+use Prim.Native.Nat.{ℕ, _+_}
+use Rattle.std.specs.Iters.{folded}
+use Rattle.std.specs.declared.result.Result.{Result}
+use Rattle.std.specs.declared.result.Result.the-variants.{Ok, Err}
+use Rattle.sheet.specs.Edits.{State, Outcome, linking}
+use Rattle.sheet.specs.declared.refusal.Refusal.{Refusal}
+use Rattle.text.specs.Refused.{refused-field}
+use Rattle.text.specs.Lines.{lines}
+use Rattle.text.specs.Records.{lengths-in, record-in}
+use Rattle.text.specs.declared.line.Record.{Record}
+use Rattle.text.specs.declared.line.Record.the-variants.{Link, End}
+use Rattle.text.specs.declared.fault.Fault.{Fault}
+use Rattle.text.specs.declared.fault.LineFault.the-variants.{Unended}
+use Rattle.text.specs.declared.fault.RecordFault.{RecordFault}
+use Rattle.text.specs.declared.fault.RecordFault.the-variants.{Line, Sheet}
+
+abbrev pub fault-at : ℕ → RecordFault → Fault
+fault-at k f = record { line = k; cause = f }
+
+-- a line's answer as the text's
+abbrev pub on-line : {A : Type 0} → ℕ → Result A RecordFault → Result A Fault
+on-line k (Ok x) = Ok x
+on-line k (Err f) = Err (fault-at k f)
+
+-- the lengths in the first line of a text
+abbrev pub opening : List (List ℕ) → Result (ℕ × ℕ) Fault
+opening [] = Err (fault-at 1 (Line Unended))
+opening (l ∷ ls) = on-line 1 (lengths-in l)
+
+-- what loading answers, the number of links it made or a fault, and what it leaves
+pub record Loaded : Type 0 where
+  pub answer : Result ℕ Fault
+  pub after : State
+
+abbrev pub loaded : Result ℕ Fault → State → Loaded
+loaded r s = record { answer = r; after = s }
+
+-- the linking of one line, on to the rest where it is accepted
+abbrev pub linked-on : ℕ → State → Result (Unit {0}) Refusal → (State → Loaded) → Loaded
+linked-on made s (Ok u) rest = rest s
+linked-on made s (Err e) rest = loaded (Err (fault-at (made + 2) (Sheet e (refused-field e)))) s
+
+abbrev pub line-on : ℕ → State → Result Record RecordFault → (State → Loaded) → Loaded
+line-on made s (Err f) rest = loaded (Err (fault-at (made + 2) f)) s
+line-on made s (Ok End) rest = loaded (Ok made) s
+line-on made s (Ok (Link i j)) rest = linked-on made (linking s i j .after) (linking s i j .answer) rest
+
+-- the lines from line 2 on, after as many links were made: each line before made one link, so line 2 + made is next
+abbrev pub loading : ℕ → State → List (List ℕ) → Loaded
+loading made s [] = loaded (Err (fault-at (made + 2) (Line Unended))) s
+loading made s (l ∷ ls) = line-on made s (record-in l) (λ t. loading (made + 1) t ls)
