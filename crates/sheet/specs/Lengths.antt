@@ -17,6 +17,6 @@ abbrev pub check-lengths : ℕ → ℕ → Result (ℕ × ℕ) Refusal
 check-lengths n m = cond (length-fits n && length-fits m) (Ok (n, m)) (Err LengthOutOfRange)
 
 -- a checked pair by its two numbers
-abbrev pub measured : Result Lengths Refusal → Result (ℕ × ℕ) Refusal
+abbrev pub measured : {E : Type 0} → Result Lengths E → Result (ℕ × ℕ) E
 measured (Ok l) = Ok (l .left, l .right)
 measured (Err e) = Err e

@@ -1,0 +1,3 @@
+mod Examples
+pub mod Pieces
+pub mod Steps

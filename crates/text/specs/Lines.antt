@@ -1,9 +1,15 @@
 -- A text as its lines, and a line as its fields.
+use mathlib.Core.Path.{_≡_}
 use mathlib.Core.Bool.{Bool, true, _&&_, _||_, cond}
 use mathlib.Core.List.{List, [], _∷_}
-use Prim.Native.Nat.{ℕ}
+use Prim.Native.Nat.{ℕ, _+_}
 use lib.Dec.{eqb, leb}
 use Rattle.text.specs.Letters.{tab, feed}
+
+-- no byte of bs is sep
+abbrev pub Lacks : ℕ → List ℕ → Type 0
+Lacks sep [] = Unit {0}
+Lacks sep (b ∷ bs) = (b ≡ sep → ⊥) × Lacks sep bs
 
 -- b goes before the first piece
 abbrev pub onto : ℕ → List (List ℕ) → List (List ℕ)
@@ -24,6 +30,11 @@ front (p ∷ q ∷ qs) = p ∷ front (q ∷ qs)
 -- each line ends in a line feed, so what stands after the last one is no line
 unfoldable pub lines : List ℕ → List (List ℕ)
 lines text = front (pieces feed text)
+
+-- the place after the first line feed
+abbrev pub line-end : List ℕ → ℕ
+line-end [] = 0
+line-end (b ∷ bs) = cond (eqb b feed) 1 (1 + line-end bs)
 
 unfoldable pub fields : List ℕ → List (List ℕ)
 fields line = pieces tab line

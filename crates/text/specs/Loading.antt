@@ -24,10 +24,24 @@ abbrev pub on-line : {A : Type 0} → ℕ → Result A RecordFault → Result A 
 on-line k (Ok x) = Ok x
 on-line k (Err f) = Err (fault-at k f)
 
+-- the lengths in the first of the lines
+abbrev pub first-lengths : List (List ℕ) → Result (ℕ × ℕ) RecordFault
+first-lengths [] = Err (Line Unended)
+first-lengths (l ∷ ls) = lengths-in l
+
+-- the record in the first of the lines
+abbrev pub first-record : List (List ℕ) → Result Record RecordFault
+first-record [] = Err (Line Unended)
+first-record (l ∷ ls) = record-in l
+
+-- the lines after the first
+abbrev pub later : List (List ℕ) → List (List ℕ)
+later [] = []
+later (l ∷ ls) = ls
+
 -- the lengths in the first line of a text
 abbrev pub opening : List (List ℕ) → Result (ℕ × ℕ) Fault
-opening [] = Err (fault-at 1 (Line Unended))
-opening (l ∷ ls) = on-line 1 (lengths-in l)
+opening ls = on-line 1 (first-lengths ls)
 
 -- what loading answers, the number of links it made or a fault, and what it leaves
 pub record Loaded : Type 0 where

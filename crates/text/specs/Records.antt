@@ -44,23 +44,28 @@ number-in k ds = cond (is-number ds) (Ok (value 10 ds)) (Err (Number k))
 -- the two numbers after a head, which are fields 2 and 3
 abbrev pub two-numbers : List (List ℕ) → Result (ℕ × ℕ) FieldFault
 two-numbers [] = Err Count
-two-numbers (h ∷ []) = Err Count
-two-numbers (h ∷ a ∷ []) = Err Count
-two-numbers (h ∷ a ∷ b ∷ []) = and-then (number-in 2 a) (λ x. and-then (number-in 3 b) (λ y. Ok (x, y)))
-two-numbers (h ∷ a ∷ b ∷ c ∷ fs) = Err Count
+two-numbers (a ∷ []) = Err Count
+two-numbers (a ∷ b ∷ []) = and-then (number-in 2 a) (λ x. and-then (number-in 3 b) (λ y. Ok (x, y)))
+two-numbers (a ∷ b ∷ c ∷ fs) = Err Count
 
 -- nothing after a head
-abbrev pub alone : List (List ℕ) → Result (Unit {0}) FieldFault
-alone [] = Err Count
-alone (h ∷ []) = Ok tt
-alone (h ∷ a ∷ fs) = Err Count
+abbrev pub nothing : List (List ℕ) → Result (Unit {0}) FieldFault
+nothing [] = Ok tt
+nothing (a ∷ fs) = Err Count
 
--- the head of a line: its first field, where that is one byte
-abbrev pub head-of : List (List ℕ) → Option ℕ
-head-of [] = None
-head-of ([] ∷ fs) = None
-head-of ((b ∷ []) ∷ fs) = Some b
-head-of ((b ∷ c ∷ bs) ∷ fs) = None
+-- a head is a field of one byte
+abbrev pub headed : List ℕ → List (List ℕ) → Result (ℕ × List (List ℕ)) RecordFault
+headed [] fs = Err Head
+headed (b ∷ []) fs = Ok (b, fs)
+headed (b ∷ c ∷ bs) fs = Err Head
+
+abbrev pub first-headed : List (List ℕ) → Result (ℕ × List (List ℕ)) RecordFault
+first-headed [] = Err Head
+first-headed (f ∷ fs) = headed f fs
+
+-- the head of a line, and the fields after it
+unfoldable pub heading : List ℕ → Result (ℕ × List (List ℕ)) RecordFault
+heading l = cond (all-clean l) (first-headed (fields l)) (Err (Line ForeignByte))
 
 -- the first field that holds no length
 abbrev pub bad-length : ℕ → ℕ
@@ -71,21 +76,19 @@ abbrev pub as-lengths : ℕ × ℕ → Result (ℕ × ℕ) RecordFault
 as-lengths p = cond (length-fits (p .0) && length-fits (p .1)) (Ok p) (Err (Sheet LengthOutOfRange (bad-length (p .0))))
 
 -- the first line by its head
-abbrev pub lengths-by : Option ℕ → List (List ℕ) → Result (ℕ × ℕ) RecordFault
-lengths-by None fs = Err Head
-lengths-by (Some b) fs = cond (eqb b (letter heads.Sheet)) (and-then (of-fields (two-numbers fs)) as-lengths) (Err Head)
+abbrev pub lengths-by : ℕ × List (List ℕ) → Result (ℕ × ℕ) RecordFault
+lengths-by h = cond (eqb (h .0) (letter heads.Sheet)) (and-then (of-fields (two-numbers (h .1))) as-lengths) (Err Head)
 
 -- a later line by its head
-abbrev pub record-by : Option ℕ → List (List ℕ) → Result Record RecordFault
-record-by None fs = Err Head
-record-by (Some b) fs =
-  cond (eqb b (letter heads.Link)) (and-then (of-fields (two-numbers fs)) (λ p. Ok (Link (p .0) (p .1))))
-  (cond (eqb b (letter heads.End)) (and-then (of-fields (alone fs)) (λ _. Ok End)) (Err Head))
+abbrev pub record-by : ℕ × List (List ℕ) → Result Record RecordFault
+record-by h =
+  cond (eqb (h .0) (letter heads.Link)) (and-then (of-fields (two-numbers (h .1))) (λ p. Ok (Link (p .0) (p .1))))
+  (cond (eqb (h .0) (letter heads.End)) (and-then (of-fields (nothing (h .1))) (λ _. Ok End)) (Err Head))
 
 -- what the first line says: the lengths of the sheet
 unfoldable pub lengths-in : List ℕ → Result (ℕ × ℕ) RecordFault
-lengths-in l = cond (all-clean l) (lengths-by (head-of (fields l)) (fields l)) (Err (Line ForeignByte))
+lengths-in l = and-then (heading l) lengths-by
 
 -- what a later line says: a link, or the end
 unfoldable pub record-in : List ℕ → Result Record RecordFault
-record-in l = cond (all-clean l) (record-by (head-of (fields l)) (fields l)) (Err (Line ForeignByte))
+record-in l = and-then (heading l) record-by

@@ -1,0 +1,6 @@
+mod Each
+mod Digits
+mod Fields
+mod Headings
+mod Lines
+mod Turns

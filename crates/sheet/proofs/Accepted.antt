@@ -1,0 +1,37 @@
+-- When an edit is accepted.
+use mathlib.Core.Path.{_≡_, refl, sym, ap, _∙_}
+use mathlib.Core.Bool.{Bool, true, false, not, cond}
+use Prim.Native.Nat.{ℕ, _+_, _-_}
+use native.Mathlib.Omega.{arith}
+use lib.Dec.{eqb}
+use Rattle.std.specs.declared.result.Result.the-variants.{Ok, Err}
+use Rattle.std.proofs.shelf.Tests.{cond-false, eqb-false}
+use Rattle.alignment.specs.Alignment.{Alignment, within}
+use Rattle.sheet.specs.Edits.{State, Outcome, with-link, refused, accepted, linking}
+use Rattle.sheet.specs.declared.refusal.Refusal.{Refusal}
+use Rattle.sheet.specs.declared.refusal.Refusal.the-variants.{LeftOutside, RightOutside, AlreadyLinked, NothingFree}
+
+tests-passed : (a b c d : Bool) (s : State) (o : Outcome) (u : Unit {0}) → cond a (refused LeftOutside s) (cond b (refused RightOutside s) (cond c (refused AlreadyLinked s) (cond d (refused NothingFree s) o))) .answer ≡ Ok u → (a ≡ false) × (b ≡ false) × (c ≡ false) × (d ≡ false)
+tests-passed true b c d s o u e = let z : _≡_ {A = ℕ} 0 1 = cc in absurd (omega arith)
+tests-passed false true c d s o u e = let z : _≡_ {A = ℕ} 0 1 = cc in absurd (omega arith)
+tests-passed false false true d s o u e = let z : _≡_ {A = ℕ} 0 1 = cc in absurd (omega arith)
+tests-passed false false false true s o u e = let z : _≡_ {A = ℕ} 0 1 = cc in absurd (omega arith)
+tests-passed false false false false s o u e = (refl, refl, refl, refl)
+
+-- a linking whose words are on the sheet and not linked, with a place free, is accepted
+pub linking-taken : (s : State) (i j : ℕ) → not (within (s .sheet .lefts) i) ≡ false → not (within (s .sheet .rights) j) ≡ false → s .sheet .linked i j ≡ false → eqb (s .free) 0 ≡ false → linking s i j ≡ accepted (with-link (s .sheet) i j) (s .free - 1)
+linking-taken s i j a b c d = cond-false _ _ _ a ∙ cond-false _ _ _ b ∙ cond-false _ _ _ c ∙ cond-false _ _ _ d
+
+-- and no other is
+pub linking-accepted : (s : State) (i j : ℕ) (u : Unit {0}) → linking s i j .answer ≡ Ok u → (linking s i j ≡ accepted (with-link (s .sheet) i j) (s .free - 1)) × (s .free ≡ 0 → ⊥)
+linking-accepted s i j u e =
+    let t = tests-passed (not (within (s .sheet .lefts) i)) (not (within (s .sheet .rights) j)) (s .sheet .linked i j) (eqb (s .free) 0) s (accepted (with-link (s .sheet) i j) (s .free - 1)) u e in
+    (linking-taken s i j (t .0) (t .1) (t .2) (t .3), eqb-false _ _ (t .3))
+
+-- each link takes one that was free
+pub free-falls : (s : State) (i j : ℕ) (u : Unit {0}) → linking s i j .answer ≡ Ok u → linking s i j .after .free + 1 ≡ s .free
+free-falls s i j u e =
+    let t = linking-accepted s i j u e in
+    let f = ap (λ (o : Outcome). o .after .free) (t .0) in
+    let some = t .1 in
+    omega arith
