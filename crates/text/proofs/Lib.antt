@@ -1,3 +1,7 @@
 mod Examples
 pub mod Pieces
 pub mod Steps
+mod Numbers
+mod Bodies
+mod Upto
+pub mod ReadsBack

@@ -5,3 +5,4 @@ pub mod Lines
 pub mod Records
 pub mod Loading
 pub mod Written
+pub mod ReadsBack

@@ -25,9 +25,13 @@ abbrev pub field-bytes : Field → List ℕ
 field-bytes (Number n) = decimal n
 field-bytes (Name l) = layer-name l
 
--- a head, each field after a tab, and a line feed
+-- a head, and each field after a tab
+abbrev pub line-body : Head → List Field → List ℕ
+line-body h fs = letter h ∷ joined (λ f. tab ∷ field-bytes f) fs
+
+-- every line ends in a line feed
 abbrev pub line : Head → List Field → List ℕ
-line h fs = (letter h ∷ joined (λ f. tab ∷ field-bytes f) fs) ++ feed ∷ []
+line h fs = line-body h fs ++ feed ∷ []
 
 abbrev pub lengths-line : ℕ → ℕ → List ℕ
 lengths-line n m = line heads.Sheet (Number n ∷ Number m ∷ [])
