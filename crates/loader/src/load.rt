@@ -4,7 +4,7 @@ ghost use mathlib.Core.Path.{_≡_};
 ghost use Rattle.std.specs.Vec.{made};
 ghost use Rattle.sheet.specs.Edits.{linking};
 ghost use Rattle.text.specs.Lines.{lines, line-end};
-ghost use Rattle.text.specs.Loading.{first-lengths, opening, loading, loaded};
+ghost use Rattle.text.specs.Loading.{first-lengths, opening, loading, loaded, As-linkings};
 ghost use Rattle.loader.specs.Linked.{as-fault, Next-record};
 ghost use Rattle.loader.specs.Located.{located, opened};
 use crate::record::read_lengths;
@@ -73,6 +73,7 @@ fn link<S: Editable>(sheet: &mut S, left: u16, right: u16) -> Result<(), RecordF
 /// Stops after the first end line. The links made before a fault stand.
 pub fn load<S: Editable>(sheet: &mut S, text: &[u8]) -> Result<u32, Fault>
     ensures done { λ r. ⌜ loaded r (state (now (sheet .exit))) ≡ loading 0 (state (now (sheet .entry))) (lines (now (text .entry))) ⌝ }
+    ensures linkings { λ r. ⌜ As-linkings (state (now (sheet .entry))) (lines (now (text .entry))) r (state (now (sheet .exit))) ⌝ }
 {
     let mut rest = text;
     let mut made = 0;

@@ -35,3 +35,15 @@ free-falls s i j u e =
     let f = ap (λ (o : Outcome). o .after .free) (t .0) in
     let some = t .1 in
     omega arith
+
+-- a refusal changes nothing
+refused-leaves : (a b c d : Bool) (s : State) (o : Outcome) (e : Refusal) → o .answer ≡ Ok tt → cond a (refused LeftOutside s) (cond b (refused RightOutside s) (cond c (refused AlreadyLinked s) (cond d (refused NothingFree s) o))) .answer ≡ Err e → cond a (refused LeftOutside s) (cond b (refused RightOutside s) (cond c (refused AlreadyLinked s) (cond d (refused NothingFree s) o))) .after ≡ s
+refused-leaves true b c d s o e ok p = refl
+refused-leaves false true c d s o e ok p = refl
+refused-leaves false false true d s o e ok p = refl
+refused-leaves false false false true s o e ok p = refl
+refused-leaves false false false false s o e ok p = let z : _≡_ {A = ℕ} 0 1 = cc in absurd (omega arith)
+
+pub linking-refused : (s : State) (i j : ℕ) (e : Refusal) → linking s i j .answer ≡ Err e → linking s i j .after ≡ s
+linking-refused s i j e p =
+    refused-leaves (not (within (s .sheet .lefts) i)) (not (within (s .sheet .rights) j)) (s .sheet .linked i j) (eqb (s .free) 0) s (accepted (with-link (s .sheet) i j) (s .free - 1)) e refl p

@@ -5,3 +5,4 @@ mod Numbers
 mod Bodies
 mod Upto
 pub mod ReadsBack
+pub mod Linkings

@@ -1,6 +1,8 @@
 -- Loading a sheet's text: the lengths in its first line, then the linkings of its other lines, up to the end or the first fault.
+use mathlib.Core.Path.{_≡_}
 use mathlib.Core.List.{List, [], _∷_}
-use Prim.Native.Nat.{ℕ, _+_}
+use Prim.Native.Nat.{ℕ, _+_, _-_}
+use lib.ListN.{length}
 use Rattle.std.specs.Iters.{folded}
 use Rattle.std.specs.declared.result.Result.{Result}
 use Rattle.std.specs.declared.result.Result.the-variants.{Ok, Err}
@@ -65,3 +67,33 @@ line-on made s (Ok (Link i j)) rest = linked-on made (linking s i j .after) (lin
 abbrev pub loading : ℕ → State → List (List ℕ) → Loaded
 loading made s [] = loaded (Err (fault-at (made + 2) (Line Unended))) s
 loading made s (l ∷ ls) = line-on made s (record-in l) (λ t. loading (made + 1) t ls)
+
+-- Loading as linkings: the pairs of the lines before any fault, and what linking them one after the other leaves.
+
+abbrev pub accepted-pair : Result (Unit {0}) Refusal → ℕ × ℕ → List (ℕ × ℕ) → List (ℕ × ℕ)
+accepted-pair (Ok u) p ps = p ∷ ps
+accepted-pair (Err e) p ps = []
+
+abbrev pub line-pairs : State → Result Record RecordFault → (State → List (ℕ × ℕ)) → List (ℕ × ℕ)
+line-pairs s (Err f) rest = []
+line-pairs s (Ok End) rest = []
+line-pairs s (Ok (Link i j)) rest = accepted-pair (linking s i j .answer) (i, j) (rest (linking s i j .after))
+
+-- the pairs that the lines link before any fault
+abbrev pub pairs-linked : State → List (List ℕ) → List (ℕ × ℕ)
+pairs-linked s [] = []
+pairs-linked s (l ∷ ls) = line-pairs s (record-in l) (λ t. pairs-linked t ls)
+
+-- one linking after the other
+abbrev pub linkings : State → List (ℕ × ℕ) → State
+linkings s ps = folded (λ t p. linking t (p .0) (p .1) .after) s ps
+
+-- how many links an answer tells of: a fault in line 2 + k came after k links
+abbrev pub links-told : Result ℕ Fault → ℕ
+links-told (Ok n) = n
+links-told (Err f) = f .line - 2
+
+-- loading does what these linkings do, and tells how many there were
+pub record As-linkings (s : State) (ls : List (List ℕ)) (r : Result ℕ Fault) (after : State) : Type 0 where
+  pub leaves : after ≡ linkings s (pairs-linked s ls)
+  pub tells : links-told r ≡ length (pairs-linked s ls)
