@@ -1,6 +1,8 @@
 //! Opening a text and loading its links.
 
 ghost use mathlib.Core.Path.{_≡_};
+ghost use Prim.Native.Nat.{_≤_};
+ghost use lib.ListN.{length};
 ghost use Rattle.std.specs.Vec.{made};
 ghost use Rattle.sheet.specs.Edits.{linking};
 ghost use Rattle.text.specs.Lines.{lines, line-end};
@@ -32,7 +34,7 @@ fn on_line<T>(line: u32, answer: Result<T, RecordFault>) -> Result<T, (u32, Reco
 /// The lengths in the first line, and the place after it.
 fn first_record(text: &[u8]) -> Result<(Lengths, usize), RecordFault>
     ensures lengths { λ r. ⌜ opened r ≡ first-lengths (lines (now (text .entry))) ⌝ }
-    ensures place { λ r. ⌜ made r (λ p. p .1 ≡ line-end (now (text .entry))) ⌝ }
+    ensures place { λ r. ⌜ made r (λ p. (p .1 ≡ line-end (now (text .entry))) × (p .1 ≤ length (now (text .entry)))) ⌝ }
 {
     let (line, _) = next_line(text)?;
     let lengths = read_lengths(line)?;
@@ -53,7 +55,7 @@ fn next_record(text: &[u8]) -> Result<(Record, &[u8]), RecordFault>
 /// A fault is one of line 1.
 pub fn open(text: &[u8]) -> Result<(Lengths, usize), Fault>
     ensures lengths { λ r. ⌜ opened r ≡ opening (lines (now (text .entry))) ⌝ }
-    ensures place { λ r. ⌜ made r (λ p. p .1 ≡ line-end (now (text .entry))) ⌝ }
+    ensures place { λ r. ⌜ made r (λ p. (p .1 ≡ line-end (now (text .entry))) × (p .1 ≤ length (now (text .entry)))) ⌝ }
 {
     let first = on_line(1, first_record(text))?;
     Ok(first)

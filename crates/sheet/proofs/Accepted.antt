@@ -5,9 +5,11 @@ use Prim.Native.Nat.{ℕ, _+_, _-_}
 use native.Mathlib.Omega.{arith}
 use lib.Dec.{eqb}
 use Rattle.std.specs.declared.result.Result.the-variants.{Ok, Err}
-use Rattle.std.proofs.shelf.Tests.{cond-false, eqb-false}
+use Rattle.std.proofs.shelf.Tests.{eqb-false, not-false}
 use Rattle.alignment.specs.Alignment.{Alignment, within}
+use Rattle.alignment.specs.Links.{links}
 use Rattle.sheet.specs.Edits.{State, Outcome, with-link, refused, accepted, linking}
+use Rattle.sheet.proofs.EditLaws.{links-with, linking-taken}
 use Rattle.sheet.specs.declared.refusal.Refusal.{Refusal}
 use Rattle.sheet.specs.declared.refusal.Refusal.the-variants.{LeftOutside, RightOutside, AlreadyLinked, NothingFree}
 
@@ -18,15 +20,17 @@ tests-passed false false true d s o u e = let z : _≡_ {A = ℕ} 0 1 = cc in ab
 tests-passed false false false true s o u e = let z : _≡_ {A = ℕ} 0 1 = cc in absurd (omega arith)
 tests-passed false false false false s o u e = (refl, refl, refl, refl)
 
--- a linking whose words are on the sheet and not linked, with a place free, is accepted
-pub linking-taken : (s : State) (i j : ℕ) → not (within (s .sheet .lefts) i) ≡ false → not (within (s .sheet .rights) j) ≡ false → s .sheet .linked i j ≡ false → eqb (s .free) 0 ≡ false → linking s i j ≡ accepted (with-link (s .sheet) i j) (s .free - 1)
-linking-taken s i j a b c d = cond-false _ _ _ a ∙ cond-false _ _ _ b ∙ cond-false _ _ _ c ∙ cond-false _ _ _ d
+abbrev Passed : State → ℕ → ℕ → Type 0
+Passed s i j = (not (within (s .sheet .lefts) i) ≡ false) × (not (within (s .sheet .rights) j) ≡ false) × (s .sheet .linked i j ≡ false) × (eqb (s .free) 0 ≡ false)
 
--- and no other is
+passed : (s : State) (i j : ℕ) (u : Unit {0}) → linking s i j .answer ≡ Ok u → Passed s i j
+passed s i j u e = tests-passed (not (within (s .sheet .lefts) i)) (not (within (s .sheet .rights) j)) (s .sheet .linked i j) (eqb (s .free) 0) s (accepted (with-link (s .sheet) i j) (s .free - 1)) u e
+
+-- only a linking that passes all tests is accepted
 pub linking-accepted : (s : State) (i j : ℕ) (u : Unit {0}) → linking s i j .answer ≡ Ok u → (linking s i j ≡ accepted (with-link (s .sheet) i j) (s .free - 1)) × (s .free ≡ 0 → ⊥)
 linking-accepted s i j u e =
-    let t = tests-passed (not (within (s .sheet .lefts) i)) (not (within (s .sheet .rights) j)) (s .sheet .linked i j) (eqb (s .free) 0) s (accepted (with-link (s .sheet) i j) (s .free - 1)) u e in
-    (linking-taken s i j (t .0) (t .1) (t .2) (t .3), eqb-false _ _ (t .3))
+    let t = passed s i j u e in
+    (linking-taken s i j (not-false _ (t .0)) (not-false _ (t .1)) (t .2) (t .3), eqb-false _ _ (t .3))
 
 -- each link takes one that was free
 pub free-falls : (s : State) (i j : ℕ) (u : Unit {0}) → linking s i j .answer ≡ Ok u → linking s i j .after .free + 1 ≡ s .free
@@ -35,6 +39,13 @@ free-falls s i j u e =
     let f = ap (λ (o : Outcome). o .after .free) (t .0) in
     let some = t .1 in
     omega arith
+
+-- and adds one to the links
+pub links-rise : (s : State) (i j : ℕ) (u : Unit {0}) → linking s i j .answer ≡ Ok u → links (linking s i j .after .sheet) ≡ links (s .sheet) + 1
+links-rise s i j u e =
+    let t = passed s i j u e in
+    ap (λ (o : Outcome). links (o .after .sheet)) (linking-accepted s i j u e .0)
+    ∙ links-with (s .sheet) i j (not-false _ (t .0)) (not-false _ (t .1)) (t .2)
 
 -- a refusal changes nothing
 refused-leaves : (a b c d : Bool) (s : State) (o : Outcome) (e : Refusal) → o .answer ≡ Ok tt → cond a (refused LeftOutside s) (cond b (refused RightOutside s) (cond c (refused AlreadyLinked s) (cond d (refused NothingFree s) o))) .answer ≡ Err e → cond a (refused LeftOutside s) (cond b (refused RightOutside s) (cond c (refused AlreadyLinked s) (cond d (refused NothingFree s) o))) .after ≡ s

@@ -2,7 +2,7 @@
 use mathlib.Core.Path.{_≡_, refl, sym, ap, subst, _∙_}
 use mathlib.Core.List.{List, [], _∷_, _++_}
 use mathlib.Core.Bool.{cond}
-use Prim.Native.Nat.{ℕ, zero, suc, _+_, _<_}
+use Prim.Native.Nat.{ℕ, zero, suc, _+_, _<_, _≤_}
 use native.Mathlib.Omega.{arith}
 use lib.Dec.{eqb}
 use lib.ListN.{length, getD, take, drop}
@@ -63,3 +63,7 @@ lines-none p x = ap front (pieces-whole feed p x)
 pub line-end-cut : (p q : List ℕ) → Lacks feed p → line-end (p ++ feed ∷ q) ≡ length p + 1
 line-end-cut [] q x = refl
 line-end-cut (b ∷ p) q x = cond-false (eqb b feed) _ _ (ne-eqb b feed (x .0)) ∙ omega (arith, line-end-cut p q (x .1))
+
+pub line-end-le : (text : List ℕ) → line-end text ≤ length text
+line-end-le [] = omega arith
+line-end-le (b ∷ bs) = cond-both (eqb b feed) 1 (1 + line-end bs) (λ k. k ≤ length (b ∷ bs)) (λ _. omega arith) (λ _. omega (arith, line-end-le bs))

@@ -9,7 +9,7 @@ use Rattle.std.proofs.shelf.Tests.{cases-bool, and-parts, eqb-true, eq-eqb, ne-
 use Rattle.std.proofs.shelf.Ways.{tells}
 use Rattle.alignment.specs.Alignment.{Alignment, Proper, unlinked, within}
 use Rattle.sheet.specs.Edits.{State, same-pair, with-link, accepted, linking}
-use Rattle.sheet.proofs.Accepted.{linking-taken}
+use Rattle.sheet.proofs.EditLaws.{linking-taken}
 
 -- (x, y) comes no later than (i, j), by left word, then right word
 abbrev pub up-to : ℕ → ℕ → ℕ → ℕ → Bool

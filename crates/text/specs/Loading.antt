@@ -6,6 +6,7 @@ use lib.ListN.{length}
 use Rattle.std.specs.Iters.{folded}
 use Rattle.std.specs.declared.result.Result.{Result}
 use Rattle.std.specs.declared.result.Result.the-variants.{Ok, Err}
+use Rattle.alignment.specs.Links.{links}
 use Rattle.sheet.specs.Edits.{State, Outcome, linking}
 use Rattle.sheet.specs.declared.refusal.Refusal.{Refusal}
 use Rattle.text.specs.Refused.{refused-field}
@@ -93,7 +94,8 @@ abbrev pub links-told : Result ℕ Fault → ℕ
 links-told (Ok n) = n
 links-told (Err f) = f .line - 2
 
--- loading does what these linkings do, and tells how many there were
+-- loading does what these linkings do, tells how many there were, and that many links are new
 pub record As-linkings (s : State) (ls : List (List ℕ)) (r : Result ℕ Fault) (after : State) : Type 0 where
   pub leaves : after ≡ linkings s (pairs-linked s ls)
   pub tells : links-told r ≡ length (pairs-linked s ls)
+  pub counts : links (after .sheet) ≡ links (s .sheet) + length (pairs-linked s ls)

@@ -1,0 +1,3 @@
+mod Sheets
+mod Whole
+mod Listed

@@ -1,0 +1,6 @@
+mod Before
+mod Digits
+mod Fields
+mod LinkLines
+mod SheetText
+mod Wrote

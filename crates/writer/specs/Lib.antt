@@ -1,0 +1,2 @@
+pub mod Tabbed
+pub mod Walk
