@@ -5,7 +5,6 @@ use mathlib.Core.List.{List, [], _∷_, _++_, append-nil, append-assoc}
 use mathlib.Core.Logic.{⊎-elim}
 use Prim.Native.Nat.{ℕ, zero, suc, _+_, _-_, _≤_, _<_}
 use native.Mathlib.Omega.{arith}
-use Rattle.std.specs.declared.option.Option.{Option}
 use Rattle.std.specs.declared.option.Option.the-variants.{Some, None}
 use Rattle.std.proofs.shelf.Tests.{cond-true, cond-false, cases-bool, cases-lt, cases-eq}
 use Rattle.alignment.specs.Alignment.{Alignment, Proper}
@@ -47,27 +46,18 @@ module _ (h : ℕ → ℕ → Bool) where
   pub row-none : (i m : ℕ) → ((t : ℕ) → 1 ≤ t → h i t ≡ false) → row h i m ≡ []
   row-none i m none = row-unchanged i 0 m (omega arith) (λ t lo hi. none t lo)
 
--- r is the least that passes from k on
-pub record Least (p : ℕ → Bool) (k r : ℕ) : Type 0 where
-  pub low : k ≤ r
-  pub passes : p r ≡ true
-  pub below : (t : ℕ) → k ≤ t → t < r → p t ≡ false
-
-pub least-some : (p : ℕ → Bool) (k n r : ℕ) → least p k n ≡ Some r → Least p k r
+-- the least that passes from k on: it does, and none before it
+pub least-some : (p : ℕ → Bool) (k n r : ℕ) → least p k n ≡ Some r → (k ≤ r) × (p r ≡ true) × ((t : ℕ) → k ≤ t → t < r → p t ≡ false)
 least-some p k zero r e = let z : _≡_ {A = ℕ} 0 1 = cc in absurd (omega arith)
 least-some p k (suc n) r e =
     ⊎-elim
     (λ y.
     let s : Some k ≡ Some r = sym (cond-true (p k) (Some k) (least p (k + 1) n) y) ∙ e in
     let q : k ≡ r = cc in
-    record { low = omega arith; passes = ap p (sym q) ∙ y; below = λ t lo hi. absurd (omega arith) })
+    (omega arith, ap p (sym q) ∙ y, λ t lo hi. absurd (omega arith)))
     (λ f.
     let s = least-some p (k + 1) n r (sym (cond-false (p k) (Some k) (least p (k + 1) n) f) ∙ e) in
-    record {
-      low = omega (arith, s .low);
-      passes = s .passes;
-      below = λ t lo hi. ⊎-elim (λ q. ap p (sym q) ∙ f) (λ ne. s .below t (omega arith) hi) (cases-eq k t);
-    })
+    (omega (arith, s .0), s .1, λ t lo hi. ⊎-elim (λ q. ap p (sym q) ∙ f) (λ ne. s .2 t (omega arith) hi) (cases-eq k t)))
     (cases-bool (p k))
 
 pub least-none : (p : ℕ → Bool) (k n : ℕ) → least p k n ≡ None → (t : ℕ) → k ≤ t → t < k + n → p t ≡ false
@@ -79,7 +69,7 @@ least-none p k (suc n) e t lo hi =
     (cases-bool (p k))
 
 module _ (a : Alignment) (i j : ℕ) where
-  pub next-found : (r : ℕ) → next-link a i j ≡ Some r → Least (a .linked i) j r
+  pub next-found : (r : ℕ) → next-link a i j ≡ Some r → (j ≤ r) × (a .linked i r ≡ true) × ((t : ℕ) → j ≤ t → t < r → a .linked i t ≡ false)
   next-found r e = least-some (a .linked i) j (a .rights + 1 - j) r e
 
   pub next-none : next-link a i j ≡ None → (t : ℕ) → j ≤ t → t ≤ a .rights → a .linked i t ≡ false

@@ -1,3 +1,4 @@
 mod Sheets
 mod Whole
 mod Listed
+mod Copies

@@ -2,4 +2,5 @@
 //!
 //! May use everything below. The programs call this crate and hold nothing that has to be proved.
 
+pub mod copying;
 pub mod listing;

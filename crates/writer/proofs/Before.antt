@@ -1,6 +1,5 @@
 -- A walk through the links: what lies before each step of it.
-use mathlib.Core.Path.{_≡_, refl, sym, ap, _∙_}
-use mathlib.Core.Bool.{true, false}
+use mathlib.Core.Path.{_≡_, sym, ap, _∙_}
 use mathlib.Core.List.{List, [], _∷_, _++_, append-nil, append-assoc}
 use mathlib.Core.Logic.{⊎-elim}
 use Prim.Native.Nat.{ℕ, zero, suc, _+_, _-_, _≤_, _<_}
@@ -17,11 +16,11 @@ module _ (a : Alignment) (ok : Proper a) where
   pub found-next : (i j r : ℕ) → next-link a i j ≡ Some r → Next a i j (i, r)
   found-next i j r e =
       let f = next-found a i j r e in
-      let low = f .low in
-      let in-words = ok .inside i r (f .passes) in
+      let low = f .0 in
+      let in-words = ok .inside i r (f .1) in
       record {
-        is-link = f .passes;
-        none-between = ap (λ x. rows (a .linked) (i - 1) (a .rights) ++ x) (row-unchanged (a .linked) i (j - 1) (r - 1) (omega arith) (λ t lo hi. f .below t (omega arith) (omega (arith, in-words .2))));
+        is-link = f .1;
+        none-between = ap (λ x. rows (a .linked) (i - 1) (a .rights) ++ x) (row-unchanged (a .linked) i (j - 1) (r - 1) (omega arith) (λ t lo hi. f .2 t (omega arith) (omega (arith, in-words .2))));
       }
 
   -- a row without a link from j on

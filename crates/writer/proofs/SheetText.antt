@@ -1,6 +1,6 @@
 -- The text of a sheet in its three parts: the first line, the lines of the links, and the last line.
 use mathlib.Core.Path.{_≡_, refl, sym, ap, _∙_}
-use mathlib.Core.List.{List, [], _++_, append-assoc}
+use mathlib.Core.List.{List, _++_, append-assoc}
 use Prim.Native.Nat.{ℕ, _+_, _≤_}
 use native.Mathlib.Omega.{arith}
 use lib.ListN.{length, length-append}
@@ -8,7 +8,8 @@ use Rattle.std.specs.Joined.{joined}
 use Rattle.alignment.specs.Alignment.{Alignment}
 use Rattle.alignment.specs.Links.{in-order}
 use Rattle.text.specs.Written.{lengths-line, link-line, end-line, body-text, sheet-text, wrote}
-use Rattle.writer.proofs.Wrote.{Wrote, wrote-none, wrote-same, then-all}
+use Rattle.writer.specs.Wrote.{Wrote}
+use Rattle.writer.proofs.Wrote.{wrote-none, wrote-same, then-all}
 
 module _ (a : Alignment) where
   parts : sheet-text a ≡ lengths-line (a .lefts) (a .rights) ++ (joined link-line (in-order a) ++ end-line)

@@ -15,11 +15,7 @@ use Rattle.std.proofs.shelf.Tests.{cond-true, cond-false, le-leb, lt-leb}
 use Rattle.sheet.specs.declared.refusal.Refusal.{Refusal}
 use Rattle.sheet.specs.declared.refusal.Refusal.the-variants.{BlockTooShort}
 use Rattle.text.specs.Written.{wrote, put, writing}
-
--- x is d with s written over it from `at` on, and there was room
-pub record Wrote (d : List ℕ) (at : ℕ) (s x : List ℕ) : Type 0 where
-  pub is : x ≡ wrote d at s
-  pub room : at + length s ≤ length d
+use Rattle.writer.specs.Wrote.{Wrote}
 
 pub wrote-none : (d : List ℕ) (at : ℕ) → at ≤ length d → Wrote d at [] d
 wrote-none d at le = record { is = rw add-zero (sym (take-append-drop at d)); room = omega arith }

@@ -1,2 +1,3 @@
 pub mod Tabbed
 pub mod Walk
+pub mod Wrote

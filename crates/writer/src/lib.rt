@@ -6,5 +6,7 @@
 mod line;
 pub mod lines;
 mod number;
+#[cfg(test)]
+mod tests;
 mod walk;
 pub mod whole;

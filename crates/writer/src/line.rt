@@ -5,7 +5,6 @@ ghost use Prim.Native.Nat.{_+_, _≤_, _<_};
 ghost use lib.ListN.{length};
 ghost use Rattle.std.specs.Results.{Cases};
 ghost use Rattle.sheet.specs.declared.refusal.Refusal.the-variants.{BlockTooShort};
-ghost use Rattle.text.specs.declared.line.Head.{Head as Heads};
 ghost use Rattle.text.specs.Written.{field-bytes, line, wrote, put, writing};
 use crate::number::fill_number;
 use crate::number::number_len;
@@ -38,7 +37,7 @@ fn fill_field(part: &mut [u8], field: Field)
 /// How many bytes a line with these fields has, whatever its head.
 pub(crate) fn line_len(fields: &[Field]) -> usize
     requires { ⌜ length (now fields) ≤ 8 ⌝ }
-    ensures { λ r. ⌜ ((h : Heads) → r ≡ length (line h (now (fields .entry)))) ⌝ }
+    ensures { λ r. ⌜ ((h : Head) → r ≡ length (line h (now (fields .entry)))) ⌝ }
 {
     let mut len = 2;
     for field in fields {
@@ -47,7 +46,7 @@ pub(crate) fn line_len(fields: &[Field]) -> usize
     len
 }
 
-/// Whether a buffer of `size` bytes has room for `len` bytes from `at` on; else a refusal.
+/// Refuses where a buffer of `size` bytes has no room for `len` bytes from `at` on.
 pub(crate) fn check_room(size: usize, at: usize, len: usize) -> Result<(), Refusal>
     ensures { λ r. ⌜ Cases r (λ _. at + len ≤ size) (λ e. (size < at + len) × (e ≡ BlockTooShort)) ⌝ }
 {

@@ -5,6 +5,7 @@ ghost use mathlib.Core.List.{[], _∷_};
 ghost use Prim.Native.Nat.{_+_, _≤_};
 ghost use lib.ListN.{length};
 ghost use Rattle.text.specs.declared.line.Field.the-variants.{Number};
+ghost use Rattle.text.specs.ReadsBack.{Reads-back};
 ghost use Rattle.text.specs.Written.{sheet-text, wrote, put, writing};
 use crate::line::check_room;
 use crate::line::line_len;
@@ -31,9 +32,10 @@ pub fn sheet_len<S: Sheet>(sheet: &S) -> usize
 
 /// Writes the text of a sheet into `out` from `at` on, and answers the place after it.
 ///
-/// Where the text does not fit, `BlockTooShort` is the refusal, and `out` stays as it was.
+/// Where the text does not fit, `BlockTooShort` is the refusal, and `out` stays as it was. What is written reads back to the same sheet.
 pub fn write_sheet<S: Sheet>(out: &mut [u8], at: usize, sheet: &S) -> Result<usize, Refusal>
-    ensures { λ r. ⌜ put r (now (out .exit)) ≡ writing (now (out .entry)) at (sheet-text (meaning (now (sheet .entry)))) ⌝ }
+    ensures done { λ r. ⌜ put r (now (out .exit)) ≡ writing (now (out .entry)) at (sheet-text (meaning (now (sheet .entry)))) ⌝ }
+    ensures reads_back { λ _. ⌜ Reads-back (meaning (now (sheet .entry))) ⌝ }
 {
     check_room(out.len(), at, sheet_len(sheet))?;
     Ok(put_sheet(out, at, sheet))

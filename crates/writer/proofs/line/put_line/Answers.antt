@@ -1,11 +1,12 @@
-use mathlib.Core.Path.{_≡_, sym, ap}
-use mathlib.Core.List.{List, [], _∷_, _++_}
-use Prim.Native.Nat.{ℕ, _+_, _≤_, _<_}
+use borrow.Author.Needs.{needs}
+use mathlib.Core.Path.{sym, ap}
+use mathlib.Core.List.{[], _∷_, _++_}
+use Prim.Native.Nat.{_+_}
 use native.Mathlib.Omega.{arith}
 use lib.ListN.{length, getD, take, length-append}
 use Rattle.std.proofs.shelf.Lists.{take-all, length-set}
 use Rattle.text.specs.declared.line.Field.the-variants.{Number}
-use Rattle.text.specs.Letters.{tab, feed, letter}
+use Rattle.text.specs.Letters.{tab, feed}
 use Rattle.text.specs.Written.{field-bytes}
 use Rattle.writer.specs.Tabbed.{tabbed}
 use Rattle.writer.proofs.Fields.{length-line, length-tabbed-more, tabbed-more, field-within}
@@ -28,8 +29,7 @@ pub part-fill-field-end : need.part-fill-field-end
 part-fill-field-end c =
     let fits = field-within (c .args .fields .now) (c .loop-field .field-index) (Number 0) (c .loop-field-test .taken) (c .args .head) in
     let same = length-set (c .args .out .now) (c .args .at) (c .letter .result) in
-    let then-same = length-set (c .loop-field .out) (c .loop-field .end) tab in
-    omega arith
+    search needs
 
 pub loop-field-again : need.loop-field-again
 loop-field-again c =

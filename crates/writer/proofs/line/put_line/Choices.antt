@@ -2,7 +2,7 @@ use mathlib.Core.Path.{_≡_}
 use Prim.Native.Nat.{_+_}
 use lib.ListN.{length, take}
 use Rattle.writer.specs.Tabbed.{tabbed}
-use Rattle.writer.proofs.Wrote.{Wrote}
+use Rattle.writer.specs.Wrote.{Wrote}
 use Rattle.writer.proofs.line.put_line.Given as given
 
 abbrev pub Inv-loop-field : given.InvT-loop-field

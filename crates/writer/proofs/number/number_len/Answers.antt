@@ -1,6 +1,5 @@
-use Prim.Native.Nat.{_^_, _<_}
 use native.Mathlib.Omega.{arith}
-use Rattle.std.proofs.shelf.Decimals.{length-decimal-le, decimal-some}
+use Rattle.std.proofs.shelf.Decimals.{length-decimal-le}
 use Rattle.writer.proofs.Digits.{one-digit, one-more-digit}
 use Rattle.writer.proofs.number.number_len.Needs as need
 

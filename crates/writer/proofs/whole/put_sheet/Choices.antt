@@ -5,7 +5,7 @@ use Rattle.std.specs.Joined.{joined}
 use Rattle.alignment.specs.Links.{in-order}
 use Rattle.text.specs.Written.{link-line}
 use Rattle.writer.specs.Walk.{before}
-use Rattle.writer.proofs.Wrote.{Wrote}
+use Rattle.writer.specs.Wrote.{Wrote}
 use Rattle.writer.proofs.whole.put_sheet.Given as given
 
 abbrev pub Inv-loop-left : given.InvT-loop-left
