@@ -1,14 +1,13 @@
--- The links in order: how the rows grow, and what the next link passes over.
+-- The links in order: how the rows grow, and where there is no link.
 use mathlib.Core.Path.{_≡_, refl, sym, ap, _∙_}
 use mathlib.Core.Bool.{Bool, true, false, cond}
 use mathlib.Core.List.{List, [], _∷_, _++_, append-nil, append-assoc}
 use mathlib.Core.Logic.{⊎-elim}
 use Prim.Native.Nat.{ℕ, zero, suc, _+_, _-_, _≤_, _<_}
 use native.Mathlib.Omega.{arith}
-use Rattle.std.specs.declared.option.Option.the-variants.{Some, None}
-use Rattle.std.proofs.shelf.Tests.{cond-true, cond-false, cases-bool, cases-lt, cases-eq}
+use Rattle.std.proofs.shelf.Tests.{cond-false, cases-bool, cases-lt}
 use Rattle.alignment.specs.Alignment.{Alignment, Proper}
-use Rattle.alignment.specs.Links.{least, next-link, row, rows}
+use Rattle.alignment.specs.Links.{row, rows}
 
 -- a list that grows by a part at each number, as a row and the rows do
 module _ {X : Type 0} (f part : ℕ → List X) (step : (n : ℕ) → f (suc n) ≡ f n ++ part (suc n)) where
@@ -45,35 +44,6 @@ module _ (h : ℕ → ℕ → Bool) where
 
   pub row-none : (i m : ℕ) → ((t : ℕ) → 1 ≤ t → h i t ≡ false) → row h i m ≡ []
   row-none i m none = row-unchanged i 0 m (omega arith) (λ t lo hi. none t lo)
-
--- the least that passes from k on: it does, and none before it
-pub least-some : (p : ℕ → Bool) (k n r : ℕ) → least p k n ≡ Some r → (k ≤ r) × (p r ≡ true) × ((t : ℕ) → k ≤ t → t < r → p t ≡ false)
-least-some p k zero r e = let z : _≡_ {A = ℕ} 0 1 = cc in absurd (omega arith)
-least-some p k (suc n) r e =
-    ⊎-elim
-    (λ y.
-    let s : Some k ≡ Some r = sym (cond-true (p k) (Some k) (least p (k + 1) n) y) ∙ e in
-    let q : k ≡ r = cc in
-    (omega arith, ap p (sym q) ∙ y, λ t lo hi. absurd (omega arith)))
-    (λ f.
-    let s = least-some p (k + 1) n r (sym (cond-false (p k) (Some k) (least p (k + 1) n) f) ∙ e) in
-    (omega (arith, s .0), s .1, λ t lo hi. ⊎-elim (λ q. ap p (sym q) ∙ f) (λ ne. s .2 t (omega arith) hi) (cases-eq k t)))
-    (cases-bool (p k))
-
-pub least-none : (p : ℕ → Bool) (k n : ℕ) → least p k n ≡ None → (t : ℕ) → k ≤ t → t < k + n → p t ≡ false
-least-none p k zero e t lo hi = absurd (omega arith)
-least-none p k (suc n) e t lo hi =
-    ⊎-elim
-    (λ y. let s : Some k ≡ None = sym (cond-true (p k) (Some k) (least p (k + 1) n) y) ∙ e in let z : _≡_ {A = ℕ} 0 1 = cc in absurd (omega arith))
-    (λ f. ⊎-elim (λ q. ap p (sym q) ∙ f) (λ ne. least-none p (k + 1) n (sym (cond-false (p k) (Some k) (least p (k + 1) n) f) ∙ e) t (omega arith) (omega arith)) (cases-eq k t))
-    (cases-bool (p k))
-
-module _ (a : Alignment) (i j : ℕ) where
-  pub next-found : (r : ℕ) → next-link a i j ≡ Some r → (j ≤ r) × (a .linked i r ≡ true) × ((t : ℕ) → j ≤ t → t < r → a .linked i t ≡ false)
-  next-found r e = least-some (a .linked i) j (a .rights + 1 - j) r e
-
-  pub next-none : next-link a i j ≡ None → (t : ℕ) → j ≤ t → t ≤ a .rights → a .linked i t ≡ false
-  next-none e t lo hi = least-none (a .linked i) j (a .rights + 1 - j) e t lo (omega arith)
 
 -- there is no link outside the words
 pub unlinked-outside : (a : Alignment) → Proper a → (i j : ℕ) → ((1 ≤ i) × (i ≤ a .lefts) × (1 ≤ j) × (j ≤ a .rights) → ⊥) → a .linked i j ≡ false

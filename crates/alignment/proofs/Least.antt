@@ -89,3 +89,19 @@ least-some p k (suc n) r e =
       first = λ u l h. ⊎-elim (λ q. ap p (sym q) ∙ f) (λ ne. s .first u (omega arith) h) (cases-eq k u);
     })
     (cases-bool (p k))
+
+pub least-none : (p : ℕ → Bool) (k n : ℕ) → least p k n ≡ None → (t : ℕ) → k ≤ t → t < k + n → p t ≡ false
+least-none p k zero e t lo hi = absurd (omega arith)
+least-none p k (suc n) e t lo hi =
+    ⊎-elim
+    (λ y. let s : Some k ≡ None = sym (cond-true (p k) (Some k) (least p (k + 1) n) y) ∙ e in let z : _≡_ {A = ℕ} 0 1 = cc in absurd (omega arith))
+    (λ f. ⊎-elim (λ q. ap p (sym q) ∙ f) (λ ne. least-none p (k + 1) n (sym (cond-false (p k) (Some k) (least p (k + 1) n) f) ∙ e) t (omega arith) (omega arith)) (cases-eq k t))
+    (cases-bool (p k))
+
+-- the next link, in words of its own
+module _ (a : Alignment) (i j : ℕ) where
+  pub next-found : (r : ℕ) → next-link a i j ≡ Some r → Least (a .linked i) j (a .rights + 1 - j) r
+  next-found r e = least-some (a .linked i) j (a .rights + 1 - j) r e
+
+  pub next-none : next-link a i j ≡ None → (t : ℕ) → j ≤ t → t ≤ a .rights → a .linked i t ≡ false
+  next-none e t lo hi = least-none (a .linked i) j (a .rights + 1 - j) e t lo (omega arith)

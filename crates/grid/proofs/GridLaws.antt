@@ -1,21 +1,21 @@
--- What a grid's edits do to its state.
-use mathlib.Core.Path.{_≡_, refl, sym, ap, _∙_, fun-ext}
+-- What a grid's state is, and what its edits do to it.
+use mathlib.Core.Path.{_≡_, refl, sym, ap, subst, _∙_, fun-ext}
 use mathlib.Core.List.{List}
 use mathlib.Core.Bool.{Bool, true, false, _&&_, _||_, not, cond}
-use mathlib.Core.Logic.{_⊎_, inl, inr, ⊎-elim}
+use mathlib.Core.Logic.{⊎-elim}
 use Prim.Native.Nat.{ℕ, zero, suc, _+_, _-_, _*_, _/_, _≤_, _<_, max}
 use native.Mathlib.Omega.{arith}
 use lib.Dec.{eqb, leb}
 use lib.ListN.{length}
 use Rattle.std.specs.Changed.{refilled}
 use Rattle.std.specs.Of.Vec.{vec-items, vec-len}
+use Rattle.std.specs.declared.result.Result.{Result}
+use Rattle.std.specs.declared.result.Result.the-variants.{Ok, Err}
 use Rattle.std.specs.declared.vec.Vec.{Vec}
 use Rattle.std.proofs.shelf.Lists.{length-set, refilled-is}
 use Rattle.std.proofs.shelf.Tests.{cases-bool, ne-eqb, leb-true, and-parts, cond-true, cond-false, false≢true, both-ways, and-from, and-left, and-right, not-from-true, not-from-false}
 use Rattle.std.proofs.shelf.Bits.{mul-le}
 use Rattle.alignment.specs.Alignment.{Alignment, within, unlinked}
-use Rattle.std.specs.declared.result.Result.{Result}
-use Rattle.std.specs.declared.result.Result.the-variants.{Ok, Err}
 use Rattle.alignment.specs.Links.{links, least, next-link}
 use Rattle.alignment.proofs.Counts.{links-le, links-none}
 use Rattle.alignment.proofs.Least.{shifted, least-shifts, next-link-from-zero}
@@ -166,52 +166,39 @@ module _ (l : Lengths) (block : List ℕ) (i j : ℕ) where
   pub block-unlinked : alignment l block .linked i j ≡ true → turned-over l block i j ≡ unlinked-block (l .left) (l .right) block i j
   block-unlinked on = sym (cond-true _ _ _ on)
 
--- what the test of two words tells, first of any two tests
+-- what the test of two words tells, first for any two tests
 abbrev checked : Bool → Bool → Result (Unit {0}) Refusal
 checked x y = cond (not x) (Err LeftOutside) (cond (not y) (Err RightOutside) (Ok tt))
 
-both-pass : (x y : Bool) → checked x y ≡ Ok tt → (x ≡ true) × (y ≡ true)
+both-pass : (x y : Bool) → Ok tt ≡ checked x y → (x ≡ true) × (y ≡ true)
 both-pass true true e = (refl, refl)
 both-pass true false e = let z : _≡_ {A = ℕ} 0 1 = cc in absurd (omega arith)
 both-pass false y e = let z : _≡_ {A = ℕ} 0 1 = cc in absurd (omega arith)
 
-first-fails : (x y : Bool) (r : Refusal) → checked x y ≡ Err r → ((x ≡ false) × (r ≡ LeftOutside)) ⊎ ((x ≡ true) × (y ≡ false) × (r ≡ RightOutside))
-first-fails true true r e = let z : _≡_ {A = ℕ} 0 1 = cc in absurd (omega arith)
-first-fails true false r e = inr (refl, refl, cc)
-first-fails false y r e = inl (refl, cc)
+first-fails : (P : Refusal → Type 0) (x y : Bool) (r : Refusal) → Err r ≡ checked x y → (x ≡ false → P LeftOutside) → (x ≡ true → y ≡ false → P RightOutside) → P r
+first-fails P true true r e left right = let z : _≡_ {A = ℕ} 0 1 = cc in absurd (omega arith)
+first-fails P true false r e left right = let same : RightOutside ≡ r = cc in subst P same (right refl refl)
+first-fails P false y r e left right = let same : LeftOutside ≡ r = cc in subst P same (left refl)
 
-pub words-within : (l : Lengths) (i j : ℕ) → check-words (l .left) (l .right) i j ≡ Ok tt → (within (l .left) i ≡ true) × (within (l .right) j ≡ true)
+pub words-within : (l : Lengths) (i j : ℕ) → Ok tt ≡ check-words (l .left) (l .right) i j → (within (l .left) i ≡ true) × (within (l .right) j ≡ true)
 words-within l i j e = both-pass (within (l .left) i) (within (l .right) j) e
 
 -- an edit of words that the test refuses
-module _ (l : Lengths) (block : List ℕ) (i j : ℕ) (r : Refusal) (e : check-words (l .left) (l .right) i j ≡ Err r) where
+module _ (l : Lengths) (block : List ℕ) (i j : ℕ) (r : Refusal) (e : Err r ≡ check-words (l .left) (l .right) i j) where
+  by-word : (P : Refusal → Type 0) → (within (l .left) i ≡ false → P LeftOutside) → (within (l .left) i ≡ true → within (l .right) j ≡ false → P RightOutside) → P r
+  by-word P left right = first-fails P (within (l .left) i) (within (l .right) j) r e left right
+
   pub linking-refused : linking (state l block) i j ≡ refused r (state l block)
-  linking-refused =
-      ⊎-elim
-      (λ p. linking-left-outside (state l block) i j (p .0) ∙ ap (λ x. refused x (state l block)) (sym (p .1)))
-      (λ p. linking-right-outside (state l block) i j (p .0) (p .1) ∙ ap (λ x. refused x (state l block)) (sym (p .2)))
-      (first-fails (within (l .left) i) (within (l .right) j) r e)
+  linking-refused = by-word (λ x. linking (state l block) i j ≡ refused x (state l block)) (linking-left-outside (state l block) i j) (linking-right-outside (state l block) i j)
 
   pub unlinking-refused : unlinking (state l block) i j ≡ refused r (state l block)
-  unlinking-refused =
-      ⊎-elim
-      (λ p. unlinking-left-outside (state l block) i j (p .0) ∙ ap (λ x. refused x (state l block)) (sym (p .1)))
-      (λ p. unlinking-right-outside (state l block) i j (p .0) (p .1) ∙ ap (λ x. refused x (state l block)) (sym (p .2)))
-      (first-fails (within (l .left) i) (within (l .right) j) r e)
+  unlinking-refused = by-word (λ x. unlinking (state l block) i j ≡ refused x (state l block)) (unlinking-left-outside (state l block) i j) (unlinking-right-outside (state l block) i j)
 
-  pub kept-not-within : block ≡ linked-block (l .left) (l .right) block i j
-  kept-not-within =
-      ⊎-elim
-      (λ p. kept-left-outside l block i j (p .0))
-      (λ p. kept-right-outside l block i j (p .1))
-      (first-fails (within (l .left) i) (within (l .right) j) r e)
+  pub kept-refused : block ≡ linked-block (l .left) (l .right) block i j
+  kept-refused = by-word (λ _. block ≡ linked-block (l .left) (l .right) block i j) (kept-left-outside l block i j) (λ _. kept-right-outside l block i j)
 
   pub not-linked-refused : alignment l block .linked i j ≡ false
-  not-linked-refused =
-      ⊎-elim
-      (λ p. not-linked-left-outside l block i j (p .0))
-      (λ p. not-linked-right-outside l block i j (p .1))
-      (first-fails (within (l .left) i) (within (l .right) j) r e)
+  not-linked-refused = by-word (λ _. alignment l block .linked i j ≡ false) (not-linked-left-outside l block i j) (λ _. not-linked-right-outside l block i j)
 
 -- a test under two others, where one pair is turned over
 turned : (x y t u v w : Bool) → (x ≡ true → y ≡ true → u ≡ t) → (t ≡ true → (x ≡ true) × (y ≡ true)) → v ≡ cond u (not w) w → (x && (y && v)) ≡ cond t (not (x && (y && w))) (x && (y && w))

@@ -1,7 +1,7 @@
 //! Single bits of a row of bytes, the low bit of a byte first.
 
 ghost use mathlib.Core.Path.{_≡_};
-ghost use Prim.Native.Nat.{_-_, _/_, _≤_, _<_};
+ghost use Prim.Native.Nat.{_-_, _*_, _/_, _≤_, _<_};
 ghost use lib.ListN.{length};
 ghost use Rattle.alignment.specs.Links.{least};
 ghost use Rattle.grid.specs.Layout.{block-bytes, bit-at};
@@ -18,7 +18,7 @@ pub(crate) fn is_set(bytes: &[u8], b: usize) -> bool
 /// The first set bit in `from..end`. Empty bytes are passed over whole.
 pub(crate) fn first_set(bytes: &[u8], from: usize, end: usize) -> Option<usize>
     requires long { ⌜ block-bytes ≤ length (now bytes) ⌝ }
-    requires end { ⌜ end ≤ 262144 ⌝ }
+    requires end { ⌜ end ≤ 8 * block-bytes ⌝ }
     ensures { λ r. ⌜ r ≡ least (bit-at (now (bytes .entry))) from (end - from) ⌝ }
 {
     let mut b = from;

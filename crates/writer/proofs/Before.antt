@@ -8,7 +8,8 @@ use Rattle.std.specs.declared.option.Option.the-variants.{Some, None}
 use Rattle.std.proofs.shelf.Tests.{cond-true, cases-lt}
 use Rattle.alignment.specs.Alignment.{Alignment, Proper}
 use Rattle.alignment.specs.Links.{next-link, row, rows, in-order}
-use Rattle.alignment.proofs.InOrder.{row-grown, row-unchanged, row-none, rows-grown, rows-unchanged, next-found, next-none, unlinked-outside}
+use Rattle.alignment.proofs.InOrder.{row-grown, row-unchanged, row-none, rows-grown, rows-unchanged, unlinked-outside}
+use Rattle.alignment.proofs.Least.{next-found, next-none}
 use Rattle.writer.specs.Walk.{before, Next}
 
 module _ (a : Alignment) (ok : Proper a) where
@@ -16,11 +17,11 @@ module _ (a : Alignment) (ok : Proper a) where
   pub found-next : (i j r : ℕ) → next-link a i j ≡ Some r → Next a i j (i, r)
   found-next i j r e =
       let f = next-found a i j r e in
-      let low = f .0 in
-      let in-words = ok .inside i r (f .1) in
+      let low = f .low in
+      let in-words = ok .inside i r (f .passes) in
       record {
-        is-link = f .1;
-        none-between = ap (λ x. rows (a .linked) (i - 1) (a .rights) ++ x) (row-unchanged (a .linked) i (j - 1) (r - 1) (omega arith) (λ t lo hi. f .2 t (omega arith) (omega (arith, in-words .2))));
+        is-link = f .passes;
+        none-between = ap (λ x. rows (a .linked) (i - 1) (a .rights) ++ x) (row-unchanged (a .linked) i (j - 1) (r - 1) (omega arith) (λ t lo hi. f .first t (omega arith) (omega (arith, in-words .2))));
       }
 
   -- a row without a link from j on

@@ -23,7 +23,7 @@ pub impl Sheet for Grid as GridSheet {
             && bits::is_set(&self.block, self.place(left, right))
     }
 
-    /// The least right word at or after `right` that is linked to `left`.
+    /// The least right word at or after `right` that is linked to `left`, if there is one.
     fn next_link(&self, left: u16, right: u16) -> Option<u16> {
         if !self.keeps_links() || !self.has_left(left) {
             return None;

@@ -1,4 +1,4 @@
-//! Where the links of a grid stand in its block.
+//! Which words a grid has, and where their links stand in its block.
 
 ghost use mathlib.Core.Path.{_≡_};
 ghost use mathlib.Core.Bool.{true};

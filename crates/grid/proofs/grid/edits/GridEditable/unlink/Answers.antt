@@ -3,9 +3,9 @@ use Prim.Native.Nat.{_-_}
 use native.Mathlib.Omega.{arith}
 use Rattle.std.specs.Changed.{refilled}
 use Rattle.std.specs.Of.Vec.{vec-items}
-use Rattle.alignment.specs.Links.{links}
 use Rattle.std.specs.declared.result.Result.the-variants.{Err}
 use Rattle.std.proofs.shelf.Results.{err-from-errBy}
+use Rattle.alignment.specs.Links.{links}
 use Rattle.sheet.specs.Edits.{accepted, outcome}
 use Rattle.sheet.proofs.EditLaws.{unlinking-not-linked}
 use Rattle.grid.specs.Layout.{grid-alignment, grid-free}
@@ -19,7 +19,7 @@ returns-in-Break-check-words c =
     let s = c .args .self .now in
     let l = s .lengths in
     let r = c .in-Break-check-words .field-0 .0 in
-    let e = sym (c .in-Break-check-words .ensures tt) in
+    let e = c .in-Break-check-words .ensures tt in
     let p = err-from-errBy (c .from-residual .result) (c .from-residual .ensures .1) in
     record {
       done = ap (λ x. outcome x (state-of s)) (p .1 ∙ ap Err (p .2)) ∙ sym (unlinking-refused l (bytes s) (c .args .left) (c .args .right) r e);
@@ -31,7 +31,7 @@ pub returns-then-not-linked : need.returns-then-not-linked
 returns-then-not-linked c =
     let s = c .args .self .now in
     let l = s .lengths in
-    let w = words-within l (c .args .left) (c .args .right) (sym (c .in-Continue-check-words .ensures tt)) in
+    let w = words-within l (c .args .left) (c .args .right) (c .in-Continue-check-words .ensures tt) in
     let off = sym (c .if-not-linked .ensures tt) in
     record {
       done = sym (unlinking-not-linked (state-of s) (c .args .left) (c .args .right) (w .0) (w .1) off);
