@@ -96,15 +96,16 @@ fn links_are_carried_over(rt: LibcRuntime) -> Result<(), Fail> {
     let mut onto = Grid::lay(lengths, vec![in rt.alloc(); 0; BLOCK_BYTES]?);
     from.link(3, 1)?;
     from.link(1, 2)?;
-    let mut buffer = [0u8; 64];
-    check_eq(copy_links(&from, &mut onto, &mut buffer[0..19]), Err(CopyFault::Buffer(Refusal::BlockTooShort)))?;
+    let mut short = [0u8; 19];
+    check_eq(copy_links(&from, &mut onto, &mut short), Err(CopyFault::Buffer(Refusal::BlockTooShort)))?;
     check_eq(onto.free(), 6)?;
-    check_eq(copy_links(&from, &mut onto, &mut buffer[0..20]), Ok(2))?;
+    let mut buffer = [0u8; 20];
+    check_eq(copy_links(&from, &mut onto, &mut buffer), Ok(2))?;
     check(onto.linked(3, 1) && onto.linked(1, 2) && !onto.linked(1, 1))?;
     check_eq(onto.free(), 4)?;
-    let fault = Fault {
+    let again = Fault {
         line: 2,
         cause: RecordFault::Sheet(Refusal::AlreadyLinked, 0),
     };
-    check_eq(copy_links(&from, &mut onto, &mut buffer), Err(CopyFault::Text(fault)))
+    check_eq(copy_links(&from, &mut onto, &mut buffer), Err(CopyFault::Text(again)))
 }
