@@ -1,3 +1,4 @@
 pub mod Counts
 pub mod Least
 pub mod InOrder
+pub mod Orders

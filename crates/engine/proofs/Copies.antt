@@ -80,8 +80,9 @@ module _ (a : Alignment) (proper : Proper a) (d after : List ℕ) (end : ℕ) (w
 pub carries-over : (a : Alignment) → Proper a → (s : State) (d : List ℕ) (r : Result ℕ CopyFault) (t : State) (after : List ℕ) → copied r t after ≡ copying a s d → Carries-over a s (length d) r t
 carries-over a proper s d r t after done empty enough room =
     let load : loading 0 s (lines (body-text a)) ≡ loaded (Ok (links a)) (record { sheet = a; free = s .free - links a }) =
-      ap (λ b. loading 0 (record { sheet = b; free = s .free }) (lines (body-text a))) empty ∙ reads-back a proper .links-again (s .free) enough in
+    ap (λ b. loading 0 (record { sheet = b; free = s .free }) (lines (body-text a))) empty ∙ reads-back a proper .links-again (s .free) enough in
     let all : copied r t after ≡ copied (of-text (loading 0 s (lines (body-text a)) .answer)) (loading 0 s (lines (body-text a)) .after) (wrote d 0 (sheet-text a)) =
-      done ∙ cond-true (leb (length (sheet-text a)) (length d)) _ _ (le-leb _ _ room) in
-    (ap (λ (c : Copied). c .answer) all ∙ ap (λ (o : Loaded). of-text (o .answer)) load,
-     ap (λ (c : Copied). c .after) all ∙ ap (λ (o : Loaded). o .after) load)
+    done ∙ cond-true (leb (length (sheet-text a)) (length d)) _ _ (le-leb _ _ room) in (
+      ap (λ (c : Copied). c .answer) all ∙ ap (λ (o : Loaded). of-text (o .answer)) load,
+      ap (λ (c : Copied). c .after) all ∙ ap (λ (o : Loaded). o .after) load,
+    )

@@ -18,9 +18,9 @@ use Rattle.engine.specs.Listing.{sheet-in, shown, listed}
 first-bytes : (text : List ℕ) (k : ℕ) → k ≡ min (length text) 65536 → take (k - 0) text ≡ take 65536 text
 first-bytes text k e =
     ⊎-elim
-      (λ short. take-all (k - 0) text (omega arith) ∙ sym (take-all 65536 text (omega arith)))
-      (λ long. let same : k - 0 ≡ 65536 = omega arith in ap (λ n. take n text) same)
-      (cases-lt (length text) 65536)
+    (λ short. take-all (k - 0) text (omega arith) ∙ sym (take-all 65536 text (omega arith)))
+    (λ long. let same : k - 0 ≡ 65536 = omega arith in ap (λ n. take n text) same)
+    (cases-lt (length text) 65536)
 
 pub listed-from : (text : List ℕ) (k : ℕ) (r : Result Alignment Fault) → k ≡ min (length text) 65536 → sheet-in (take (k - 0) text) ≡ r → shown r ≡ listed text
 unfolding listed

@@ -35,7 +35,6 @@ unopened text f e = ap (λ r. and-then r (λ p. loaded-sheet (loading 0 (blank (
 module _ (text : List ℕ) (n m place : ℕ) (opened : Ok (n, m) ≡ opening (lines text)) (after-first : place ≡ line-end text)
     (block : List ℕ) (long : 32768 ≤ length block) (s : State) (laid : s ≡ laid-state n m block)
     (r : Result ℕ Fault) (after : State) (done : loaded r after ≡ loading 0 s (lines (take (length text - place) (drop place text)))) where
-
   is-blank : s ≡ blank n m
   is-blank = laid ∙ ap (λ f. record { sheet = unlinked n m; free = f }) (cond-true (enough block) (n * m) 0 (le-leb 32768 (length block) long))
 

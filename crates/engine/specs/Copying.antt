@@ -34,12 +34,12 @@ of-text (Err f) = Err (Text f)
 -- the text of a goes into the buffer d, and its lines after the first are loaded into s
 abbrev pub copying : Alignment → State → List ℕ → Copied
 copying a s d =
-  cond (leb (length (sheet-text a)) (length d))
-  (copied (of-text (loading 0 s (lines (body-text a)) .answer)) (loading 0 s (lines (body-text a)) .after) (wrote d 0 (sheet-text a)))
-  (copied (Err (Buffer BlockTooShort)) s d)
+    cond (leb (length (sheet-text a)) (length d))
+    (copied (of-text (loading 0 s (lines (body-text a)) .answer)) (loading 0 s (lines (body-text a)) .after) (wrote d 0 (sheet-text a)))
+    (copied (Err (Buffer BlockTooShort)) s d)
 
 -- a sheet of the same lengths, without links and with free enough, then has the same links
 abbrev pub Carries-over : Alignment → State → ℕ → Result ℕ CopyFault → State → Type 0
 Carries-over a s room r after =
-  s .sheet ≡ unlinked (a .lefts) (a .rights) → links a ≤ s .free → length (sheet-text a) ≤ room →
-  (r ≡ Ok (links a)) × (after ≡ record { sheet = a; free = s .free - links a })
+    s .sheet ≡ unlinked (a .lefts) (a .rights) → links a ≤ s .free → length (sheet-text a) ≤ room →
+    (r ≡ Ok (links a)) × (after ≡ record { sheet = a; free = s .free - links a })

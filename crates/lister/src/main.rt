@@ -10,9 +10,7 @@ use std::io::Write;
 
 fn main(rt: LibcRuntime) -> io::Result<()> {
     let mut text = Vec::new(rt.alloc());
-    rt.stdin()
-        .take(MOST_BYTES as u64)
-        .read_to_end(&mut text)?;
+    rt.stdin().take(MOST_BYTES as u64).read_to_end(&mut text)?;
     let listing = list(rt.alloc(), &text)?;
     rt.stdout().write_all(&listing)
 }

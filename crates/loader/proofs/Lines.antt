@@ -17,10 +17,11 @@ use Rattle.text.proofs.Pieces.{lines-cut, lines-none, line-end-cut}
 module _ (text line : List ℕ) (o : Option (RefT (List ℕ))) (cut : Cases o ((line ≡ text) × Lacks feed text) (λ r. (text ≡ line ++ feed ∷ now r) × Lacks feed line)) where
   pub line-found : (rest : RefT (List ℕ)) → o ≡ Some rest → (lines text ≡ line ∷ lines (now rest)) × (line-end text ≡ length line + 1) × (length line + 1 + length (now rest) ≡ length text)
   line-found rest e =
-      let h = cases-at-some ((line ≡ text) × Lacks feed text) (λ r. (text ≡ line ++ feed ∷ now r) × Lacks feed line) rest e cut in
-      (ap lines (h .0) ∙ lines-cut line (now rest) (h .1),
-       ap line-end (h .0) ∙ line-end-cut line (now rest) (h .1),
-       omega (arith, ap length (h .0), length-append line (feed ∷ now rest)))
+      let h = cases-at-some ((line ≡ text) × Lacks feed text) (λ r. (text ≡ line ++ feed ∷ now r) × Lacks feed line) rest e cut in (
+        ap lines (h .0) ∙ lines-cut line (now rest) (h .1),
+        ap line-end (h .0) ∙ line-end-cut line (now rest) (h .1),
+        omega (arith, ap length (h .0), length-append line (feed ∷ now rest)),
+      )
 
   pub line-missing : o ≡ None → lines text ≡ []
   line-missing e =

@@ -24,8 +24,14 @@ use writer::lines::write_end;
 // A text, and what the lister prints of it: each fault number and each layer that a text can meet.
 const LISTINGS: [(&str, &str); 29] = [
     ("S\t1\t1\nL\t1\t1\nE\n", "S\t1\t1\nL\t1\t1\nE\n"),
-    ("S\t3\t3\nL\t3\t1\nL\t1\t3\nL\t1\t2\nE\nE\n", "S\t3\t3\nL\t1\t2\nL\t1\t3\nL\t3\t1\nE\n"),
-    ("S\t512\t512\nL\t512\t512\nE\n", "S\t512\t512\nL\t512\t512\nE\n"),
+    (
+        "S\t3\t3\nL\t3\t1\nL\t1\t3\nL\t1\t2\nE\nE\n",
+        "S\t3\t3\nL\t1\t2\nL\t1\t3\nL\t3\t1\nE\n",
+    ),
+    (
+        "S\t512\t512\nL\t512\t512\nE\n",
+        "S\t512\t512\nL\t512\t512\nE\n",
+    ),
     ("S\t2\t2\nL\t3\t1\n", "F\tsheet\t1\t2\t2\n"),
     ("S\t2\t2\nL\t0\t9\nE\n", "F\tsheet\t1\t2\t2\n"),
     ("S\t2\t2\nL\t1\t3\nE\n", "F\tsheet\t2\t2\t3\n"),
@@ -97,7 +103,10 @@ fn links_are_carried_over(rt: LibcRuntime) -> Result<(), Fail> {
     from.link(3, 1)?;
     from.link(1, 2)?;
     let mut short = [0u8; 19];
-    check_eq(copy_links(&from, &mut onto, &mut short), Err(CopyFault::Buffer(Refusal::BlockTooShort)))?;
+    check_eq(
+        copy_links(&from, &mut onto, &mut short),
+        Err(CopyFault::Buffer(Refusal::BlockTooShort)),
+    )?;
     check_eq(onto.free(), 6)?;
     let mut buffer = [0u8; 20];
     check_eq(copy_links(&from, &mut onto, &mut buffer), Ok(2))?;
@@ -107,5 +116,8 @@ fn links_are_carried_over(rt: LibcRuntime) -> Result<(), Fail> {
         line: 2,
         cause: RecordFault::Sheet(Refusal::AlreadyLinked, 0),
     };
-    check_eq(copy_links(&from, &mut onto, &mut buffer), Err(CopyFault::Text(again)))
+    check_eq(
+        copy_links(&from, &mut onto, &mut buffer),
+        Err(CopyFault::Text(again)),
+    )
 }

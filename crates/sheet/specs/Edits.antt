@@ -50,19 +50,19 @@ accepted a f = outcome (Ok tt) (record { sheet = a; free = f })
 -- linking adds the link, and free falls by one
 abbrev pub linking : State → ℕ → ℕ → Outcome
 linking s i j =
-  cond (not (within (s .sheet .lefts) i)) (refused LeftOutside s)
-  (cond (not (within (s .sheet .rights) j)) (refused RightOutside s)
-  (cond (s .sheet .linked i j) (refused AlreadyLinked s)
-  (cond (eqb (s .free) 0) (refused NothingFree s)
-  (accepted (with-link (s .sheet) i j) (s .free - 1)))))
+    cond (not (within (s .sheet .lefts) i)) (refused LeftOutside s)
+    (cond (not (within (s .sheet .rights) j)) (refused RightOutside s)
+    (cond (s .sheet .linked i j) (refused AlreadyLinked s)
+    (cond (eqb (s .free) 0) (refused NothingFree s)
+    (accepted (with-link (s .sheet) i j) (s .free - 1)))))
 
 -- unlinking removes it, and free rises by one
 abbrev pub unlinking : State → ℕ → ℕ → Outcome
 unlinking s i j =
-  cond (not (within (s .sheet .lefts) i)) (refused LeftOutside s)
-  (cond (not (within (s .sheet .rights) j)) (refused RightOutside s)
-  (cond (not (s .sheet .linked i j)) (refused NotLinked s)
-  (accepted (without-link (s .sheet) i j) (s .free + 1))))
+    cond (not (within (s .sheet .lefts) i)) (refused LeftOutside s)
+    (cond (not (within (s .sheet .rights) j)) (refused RightOutside s)
+    (cond (not (s .sheet .linked i j)) (refused NotLinked s)
+    (accepted (without-link (s .sheet) i j) (s .free + 1))))
 
 -- wiping removes all links, and free rises by their number
 abbrev pub wiping : State → State

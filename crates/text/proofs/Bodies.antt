@@ -59,24 +59,28 @@ module _ (h : Head) (n m : ℕ) (n-small : n < 1000) (m-small : m < 1000) where
   low-lacks c n low small = no-digit n small c (λ d. omega (arith, d))
 
   pub pair-ended : Lacks feed (pair-body h n m)
-  pair-ended =
-      (not-letter h 10 (omega arith), ((λ e. absurd (omega arith)),
-       lacks-append feed (decimal n) (tab ∷ (decimal m ++ [])) (low-lacks 10 n (omega arith) n-small)
-         ((λ e. absurd (omega arith)), lacks-append feed (decimal m) [] (low-lacks 10 m (omega arith) m-small) tt)))
+  pair-ended = (
+    not-letter h 10 (omega arith),
+    (
+      (λ e. absurd (omega arith)),
+      lacks-append feed (decimal n) (tab ∷ (decimal m ++ [])) (low-lacks 10 n (omega arith) n-small)
+          ((λ e. absurd (omega arith)), lacks-append feed (decimal m) [] (low-lacks 10 m (omega arith) m-small) tt),
+    ),
+  )
 
   pair-clean : all-clean (pair-body h n m) ≡ true
   pair-clean =
       and-from (clean (letter h)) _ (letter-clean h)
-        (clean-append (decimal n) (tab ∷ (decimal m ++ [])) (digits-clean (decimal n) (every n n-small))
-          (clean-append (decimal m) [] (digits-clean (decimal m) (every m m-small)) refl))
+      (clean-append (decimal n) (tab ∷ (decimal m ++ [])) (digits-clean (decimal n) (every n n-small))
+      (clean-append (decimal m) [] (digits-clean (decimal m) (every m m-small)) refl))
 
   pair-fields : fields (pair-body h n m) ≡ (letter h ∷ []) ∷ decimal n ∷ decimal m ∷ []
   unfolding fields
   pair-fields =
       pieces-cut tab (letter h ∷ []) (decimal n ++ tab ∷ (decimal m ++ [])) (not-letter h 9 (omega arith), tt)
       ∙ ap (λ ps. (letter h ∷ []) ∷ ps)
-          (pieces-cut tab (decimal n) (decimal m ++ []) (low-lacks 9 n (omega arith) n-small)
-           ∙ ap (λ ps. decimal n ∷ ps) (ap (pieces tab) (append-nil (decimal m)) ∙ pieces-whole tab (decimal m) (low-lacks 9 m (omega arith) m-small)))
+      (pieces-cut tab (decimal n) (decimal m ++ []) (low-lacks 9 n (omega arith) n-small)
+      ∙ ap (λ ps. decimal n ∷ ps) (ap (pieces tab) (append-nil (decimal m)) ∙ pieces-whole tab (decimal m) (low-lacks 9 m (omega arith) m-small)))
 
   pair-heading : heading (pair-body h n m) ≡ Ok (letter h, decimal n ∷ decimal m ∷ [])
   unfolding heading

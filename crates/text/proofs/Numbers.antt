@@ -39,15 +39,15 @@ module _ (n : ℕ) (small : n < 1000) where
   bare : (eqb (length (decimal n)) 1 || not (eqb (getD (decimal n) 0 0) 48)) ≡ true
   bare =
       ⊎-elim
-        (λ e. or-left (eqb (length (decimal n)) 1) _ (ap (λ k. eqb (length (decimal k)) 1) e ∙ zero-is-short))
-        (λ ne. or-right (eqb (length (decimal n)) 1) _ (not-from-false _ (ne-eqb _ 48 (λ e. let h : 48 < getD (decimal n) 0 0 = first-decimal n (omega arith) wide in omega arith))))
-        (cases-eq n 0)
+      (λ e. or-left (eqb (length (decimal n)) 1) _ (ap (λ k. eqb (length (decimal k)) 1) e ∙ zero-is-short))
+      (λ ne. or-right (eqb (length (decimal n)) 1) _ (not-from-false _ (ne-eqb _ 48 (λ e. let h : 48 < getD (decimal n) 0 0 = first-decimal n (omega arith) wide in omega arith))))
+      (cases-eq n 0)
 
   is-read : is-number (decimal n) ≡ true
   is-read =
       and-from (leb 1 (length (decimal n))) _ (le-leb 1 (length (decimal n)) (decimal-some n wide))
-        (and-from (leb (length (decimal n)) 3) _ (le-leb (length (decimal n)) 3 few)
-          (and-from (allDigits (decimal n)) _ every bare))
+      (and-from (leb (length (decimal n)) 3) _ (le-leb (length (decimal n)) 3 few)
+      (and-from (allDigits (decimal n)) _ every bare))
 
   pub reads-back : (k : ℕ) → number-in k (decimal n) ≡ Ok n
   unfolding number-in

@@ -81,20 +81,20 @@ module _ (a : Alignment) (proper : Proper a) where
       let c = count (a .linked i) j in
       let split : Bool → List (ℕ × ℕ) = λ b. cond b ((i, suc j) ∷ []) [] in
       let step : (ps : List (ℕ × ℕ)) → c ≤ f → split (a .linked i (suc j)) ≡ ps → loading k (at i 0 f) (bodies (row (a .linked) i (suc j)) ++ q) ≡ loading (k + c) (at i j (f - c)) (bodies ps ++ q) = λ ps fits e.
-            ap (loading k (at i 0 f)) (after-bodies (row (a .linked) i j) (split (a .linked i (suc j))) q ∙ ap (λ x. bodies (row (a .linked) i j) ++ (bodies x ++ q)) e)
-            ∙ row-loads i j k f (bodies ps ++ q) low high (omega arith) fits in
+      ap (loading k (at i 0 f)) (after-bodies (row (a .linked) i j) (split (a .linked i (suc j))) q ∙ ap (λ x. bodies (row (a .linked) i j) ++ (bodies x ++ q)) e)
+      ∙ row-loads i j k f (bodies ps ++ q) low high (omega arith) fits in
       ⊎-elim
-        (λ on.
-          let one : _≡_ {A = ℕ} (cond (a .linked i (suc j)) 1 0) 1 = cond-true (a .linked i (suc j)) 1 0 on in
-          step ((i, suc j) ∷ []) (omega (arith, one)) (cond-true (a .linked i (suc j)) ((i, suc j) ∷ []) [] on)
-          ∙ link-loads i j (k + c) (f - c) q low high below on (omega (arith, one))
-          ∙ same-load (k + c + 1) (k + count (a .linked i) (suc j)) i (suc j) (f - c - 1) (f - count (a .linked i) (suc j)) q (omega (arith, one)) (omega (arith, one)))
-        (λ off.
-          let none : _≡_ {A = ℕ} (cond (a .linked i (suc j)) 1 0) 0 = cond-false (a .linked i (suc j)) 1 0 off in
-          step [] (omega (arith, none)) (cond-false (a .linked i (suc j)) ((i, suc j) ∷ []) [] off)
-          ∙ ap (λ b. loading (k + c) (record { sheet = b; free = f - c }) q) (upto-skip a proper i j off)
-          ∙ same-load (k + c) (k + count (a .linked i) (suc j)) i (suc j) (f - c) (f - count (a .linked i) (suc j)) q (omega (arith, none)) (omega (arith, none)))
-        (cases-bool (a .linked i (suc j)))
+      (λ on.
+      let one : _≡_ {A = ℕ} (cond (a .linked i (suc j)) 1 0) 1 = cond-true (a .linked i (suc j)) 1 0 on in
+      step ((i, suc j) ∷ []) (omega (arith, one)) (cond-true (a .linked i (suc j)) ((i, suc j) ∷ []) [] on)
+      ∙ link-loads i j (k + c) (f - c) q low high below on (omega (arith, one))
+      ∙ same-load (k + c + 1) (k + count (a .linked i) (suc j)) i (suc j) (f - c - 1) (f - count (a .linked i) (suc j)) q (omega (arith, one)) (omega (arith, one)))
+      (λ off.
+      let none : _≡_ {A = ℕ} (cond (a .linked i (suc j)) 1 0) 0 = cond-false (a .linked i (suc j)) 1 0 off in
+      step [] (omega (arith, none)) (cond-false (a .linked i (suc j)) ((i, suc j) ∷ []) [] off)
+      ∙ ap (λ b. loading (k + c) (record { sheet = b; free = f - c }) q) (upto-skip a proper i j off)
+      ∙ same-load (k + c) (k + count (a .linked i) (suc j)) i (suc j) (f - c) (f - count (a .linked i) (suc j)) q (omega (arith, none)) (omega (arith, none)))
+      (cases-bool (a .linked i (suc j)))
 
   abbrev below-rows : ℕ → ℕ
   below-rows n = sum (λ i. count (a .linked i) (a .rights)) n
@@ -142,9 +142,9 @@ module _ (a : Alignment) (proper : Proper a) where
       record {
         first = ap opening (lines-pair heads.Sheet n m (body-text a) (omega arith) (omega arith)) ∙ ap (on-line 1) (lengths-read n m (omega arith) (omega arith) fits-left fits-right);
         rest =
-          ap (λ t. drop (line-end t) t) whole
-          ∙ ap (λ k. drop k (first-body ++ feed ∷ body-text a)) (line-end-cut first-body (body-text a) (pair-ended heads.Sheet n m (omega arith) (omega arith)))
-          ∙ ap (drop (length first-body + 1)) (sym whole)
-          ∙ drop-at (lengths-line n m) (body-text a) (length first-body + 1) (length-push first-body feed);
+            ap (λ t. drop (line-end t) t) whole
+            ∙ ap (λ k. drop k (first-body ++ feed ∷ body-text a)) (line-end-cut first-body (body-text a) (pair-ended heads.Sheet n m (omega arith) (omega arith)))
+            ∙ ap (drop (length first-body + 1)) (sym whole)
+            ∙ drop-at (lengths-line n m) (body-text a) (length first-body + 1) (length-push first-body feed);
         links-again = loads-again;
       }

@@ -37,9 +37,9 @@ agree false false false e = refl
 step-elsewhere : (i j x y : ℕ) → (x ≡ i → y ≡ suc j → ⊥) → up-to i j x y ≡ up-to i (suc j) x y
 step-elsewhere i j x y apart =
     ⊎-elim
-      (λ p. ⊎-elim (λ q. absurd (apart p q)) (λ nq. grind (arith, tells)) (cases-eq y (suc j)))
-      (λ np. grind (arith, tells))
-      (cases-eq x i)
+    (λ p. ⊎-elim (λ q. absurd (apart p q)) (λ nq. grind (arith, tells)) (cases-eq y (suc j)))
+    (λ np. grind (arith, tells))
+    (cases-eq x i)
 
 module _ (a : Alignment) (proper : Proper a) where
   pub upto-none : upto a 0 (a .rights) ≡ unlinked (a .lefts) (a .rights)
@@ -67,9 +67,9 @@ module _ (a : Alignment) (proper : Proper a) where
   pub upto-link : (i j : ℕ) → a .linked i (suc j) ≡ true → with-link (upto a i j) i (suc j) ≡ upto a i (suc j)
   upto-link i j on = same-links a _ _ (λ x y. ⊎-elim
       (λ p. ⊎-elim
-        (λ q. let l : a .linked x y ≡ true = ap (λ k. a .linked k y) p ∙ ap (a .linked i) q ∙ on in grind (arith, tells))
-        (λ nq. let e = step-elsewhere i j x y (λ _ q. nq q) in grind (arith, tells))
-        (cases-eq y (suc j)))
+      (λ q. let l : a .linked x y ≡ true = ap (λ k. a .linked k y) p ∙ ap (a .linked i) q ∙ on in grind (arith, tells))
+      (λ nq. let e = step-elsewhere i j x y (λ _ q. nq q) in grind (arith, tells))
+      (cases-eq y (suc j)))
       (λ np. let e = step-elsewhere i j x y (λ p _. np p) in grind (arith, tells))
       (cases-eq x i))
 

@@ -82,8 +82,8 @@ lengths-by h = cond (eqb (h .0) (letter heads.Sheet)) (and-then (of-fields (two-
 -- a later line by its head
 abbrev pub record-by : ℕ × List (List ℕ) → Result Record RecordFault
 record-by h =
-  cond (eqb (h .0) (letter heads.Link)) (and-then (of-fields (two-numbers (h .1))) (λ p. Ok (Link (p .0) (p .1))))
-  (cond (eqb (h .0) (letter heads.End)) (and-then (of-fields (nothing (h .1))) (λ _. Ok End)) (Err Head))
+    cond (eqb (h .0) (letter heads.Link)) (and-then (of-fields (two-numbers (h .1))) (λ p. Ok (Link (p .0) (p .1))))
+    (cond (eqb (h .0) (letter heads.End)) (and-then (of-fields (nothing (h .1))) (λ _. Ok End)) (Err Head))
 
 -- what the first line says: the lengths of the sheet
 unfoldable pub lengths-in : List ℕ → Result (ℕ × ℕ) RecordFault

@@ -16,7 +16,11 @@ use writer::whole::write_sheet;
 ///
 /// A sheet of the same lengths, without links and with free enough, then has the same links. A buffer that is too short is refused and
 /// nothing is changed; what the other sheet refuses is the fault of that line, and the links before it stand.
-pub fn copy_links<P: Sheet, Q: Editable>(from: &P, onto: &mut Q, buffer: &mut [u8]) -> Result<u32, CopyFault>
+pub fn copy_links<P: Sheet, Q: Editable>(
+    from: &P,
+    onto: &mut Q,
+    buffer: &mut [u8],
+) -> Result<u32, CopyFault>
     ensures done { λ r. ⌜ copied r (Q·Editable .state (now (onto .exit))) (now (buffer .exit)) ≡ copying (P·Sheet .meaning (now (from .entry))) (Q·Editable .state (now (onto .entry))) (now (buffer .entry)) ⌝ }
     ensures carries_over { λ r. ⌜ Carries-over (P·Sheet .meaning (now (from .entry))) (Q·Editable .state (now (onto .entry))) (length (now (buffer .entry))) r (Q·Editable .state (now (onto .exit))) ⌝ }
 {

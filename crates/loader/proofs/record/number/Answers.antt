@@ -24,10 +24,11 @@ pub loop-b-again : need.loop-b-again
 loop-b-again c =
     let ds = c .args .field .now in
     let k = c .loop-b .b-index in
-    let digit = c .if-not-is-ascii-digit .ensures tt .cases in
-    (sym (passes asciiDigit allDigits (λ _ _. refl) ds k (c .loop-b-test .taken) (sym (c .if-not-is-ascii-digit .ensures tt .value))) ∙ c .loop-b .inv .0,
-     sym (value-on (c .loop-b .value) ds k (c .from .result) (c .loop-b-test .taken) (omega arith) (omega arith) (c .from .ensures)) ∙ c .loop-b .inv .1,
-     one-more-digit (c .loop-b .value) (c .from .result) k (c .loop-b .inv .2) (omega arith))
+    let digit = c .if-not-is-ascii-digit .ensures tt .cases in (
+      sym (passes asciiDigit allDigits (λ _ _. refl) ds k (c .loop-b-test .taken) (sym (c .if-not-is-ascii-digit .ensures tt .value))) ∙ c .loop-b .inv .0,
+      sym (value-on (c .loop-b .value) ds k (c .from .result) (c .loop-b-test .taken) (omega arith) (omega arith) (c .from .ensures)) ∙ c .loop-b .inv .1,
+      one-more-digit (c .loop-b .value) (c .from .result) k (c .loop-b .inv .2) (omega arith),
+    )
 
 pub returns : need.returns
 returns c =
@@ -35,6 +36,6 @@ returns c =
     let k = c .loop-b .b-index in
     let done = c .loop-b-test .left in
     is-read (c .args .place) ds (c .loop-b .value) (omega arith) (omega arith)
-      (sym (c .loop-b .inv .0) ∙ at-drop-all allDigits ds k done)
-      (elim (c .else-field-gt1 .came) [ else-field-gt1·by·then-field-gt1·else-field-eq48 w ↦ inr (w .if-field-eq48 .left) | else-field-gt1·by·else-field-gt1 w ↦ inl (w .if-field-gt1 .left) ])
-      (sym (at-drop-all (valueAfter 10 (c .loop-b .value)) ds k done) ∙ c .loop-b .inv .1)
+    (sym (c .loop-b .inv .0) ∙ at-drop-all allDigits ds k done)
+    (elim (c .else-field-gt1 .came) [ else-field-gt1·by·then-field-gt1·else-field-eq48 w ↦ inr (w .if-field-eq48 .left) | else-field-gt1·by·else-field-gt1 w ↦ inl (w .if-field-gt1 .left) ])
+    (sym (at-drop-all (valueAfter 10 (c .loop-b .value)) ds k done) ∙ c .loop-b .inv .1)
