@@ -1,3 +1,3 @@
 pub mod Rest
 pub mod Located
-pub mod Linked
+pub mod Turns

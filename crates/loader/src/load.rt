@@ -4,10 +4,9 @@ ghost use mathlib.Core.Path.{_≡_};
 ghost use Prim.Native.Nat.{_≤_};
 ghost use lib.ListN.{length};
 ghost use Rattle.std.specs.Vec.{made};
-ghost use Rattle.sheet.specs.Edits.{linking};
 ghost use Rattle.text.specs.Lines.{lines, line-end};
 ghost use Rattle.text.specs.Loading.{first-lengths, opening, loading, loaded, As-linkings};
-ghost use Rattle.loader.specs.Linked.{as-fault, Next-record};
+ghost use Rattle.loader.specs.Turns.{Next-record, Line-loaded};
 ghost use Rattle.loader.specs.Located.{located, opened};
 use crate::record::read_lengths;
 use crate::record::read_record;
@@ -61,13 +60,18 @@ pub fn open(text: &[u8]) -> Result<(Lengths, usize), Fault>
     Ok(first)
 }
 
-/// Links two words; a refusal becomes a fault of the line.
-fn link<S: Editable>(sheet: &mut S, left: u16, right: u16) -> Result<(), RecordFault>
-    ensures answer { λ r. ⌜ r ≡ as-fault (linking (state (now (sheet .entry))) left right .answer) ⌝ }
-    ensures after { λ _. ⌜ state (now (sheet .exit)) ≡ linking (state (now (sheet .entry))) left right .after ⌝ }
+/// Does what the next line says: links its words and gives the text after it, or gives none at the end.
+fn load_line<'a, S: Editable>(sheet: &mut S, text: &'a [u8]) -> Result<Option<&'a [u8]>, RecordFault>
+    ensures { λ r. ⌜ Line-loaded (state (now (sheet .entry))) (now (text .entry)) r (state (now (sheet .exit))) ⌝ }
 {
-    sheet.link(left, right)?;
-    Ok(())
+    let (record, rest) = next_record(text)?;
+    match record {
+        Record::Link(left, right) => {
+            sheet.link(left, right)?;
+            Ok(Some(rest))
+        }
+        Record::End => Ok(None),
+    }
 }
 
 /// Loads the links of a text, from its line 2 on, and answers how many it made.
@@ -79,13 +83,9 @@ pub fn load<S: Editable>(sheet: &mut S, text: &[u8]) -> Result<u32, Fault>
 {
     let mut rest = text;
     let mut made = 0;
-    loop {
-        let (record, tail) = on_line(made + 2, next_record(rest))?;
-        match record {
-            Record::Link(left, right) => on_line(made + 2, link(sheet, left, right))?,
-            Record::End => return Ok(made),
-        }
+    while let Some(tail) = on_line(made + 2, load_line(sheet, rest))? {
         rest = tail;
         made += 1;
     }
+    Ok(made)
 }
