@@ -1,20 +1,20 @@
 -- The next link is the least, and the links in order are all links.
-use mathlib.Core.Path.{_≡_, refl, sym, ap, _∙_}
+use mathlib.Core.Path.{_≡_, refl, ap, _∙_}
 use mathlib.Core.Bool.{Bool, true, false, _&&_, _||_, cond}
 use mathlib.Core.List.{List, [], _∷_, _++_}
 use mathlib.Core.Logic.{_⊎_, inl, inr, ⊎-elim}
 use Prim.Native.Nat.{ℕ, zero, suc, _+_, _-_, _≤_, _<_}
 use native.Mathlib.Omega.{arith}
-use lib.Dec.{eqb, leb}
+use lib.Dec.{eqb}
 use lib.ListN.{length, length-append}
 use Rattle.std.specs.Options.{Cases}
 use Rattle.std.specs.declared.option.Option.{Option}
 use Rattle.std.specs.declared.option.Option.the-variants.{Some, None}
-use Rattle.std.proofs.shelf.Tests.{cases-bool, cases-eq}
+use Rattle.std.proofs.shelf.Tests.{cases-eq}
 use Rattle.std.proofs.shelf.Ways.{tells}
 use Rattle.alignment.specs.Alignment.{Alignment, within}
-use Rattle.alignment.specs.Links.{count, sum, links, next-link, row, rows, in-order}
-use Rattle.alignment.specs.Laws.{Least-link, No-link, Next-link-is-least, among, Before, Before-all, Ascending, All-links, Links-in-order}
+use Rattle.alignment.specs.Links.{count, sum, next-link, row, rows}
+use Rattle.alignment.specs.Laws.{Least-link, No-link, Next-link-is-least, among, Before, Before-all, Ascending, Links-in-order}
 use Rattle.alignment.proofs.Least.{next-found, next-none}
 
 next-cases : (a : Alignment) (i j : ℕ) (o : Option ℕ) → next-link a i j ≡ o → Cases o (No-link a i j) (Least-link a i j)

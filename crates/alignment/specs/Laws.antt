@@ -8,7 +8,7 @@ use lib.Dec.{eqb}
 use lib.ListN.{length}
 use Rattle.std.specs.Options.{Cases}
 use Rattle.alignment.specs.Alignment.{Alignment, within}
-use Rattle.alignment.specs.Links.{links, left-linked, next-link, in-order}
+use Rattle.alignment.specs.Links.{links, next-link, in-order}
 
 -- r is a right word from j on that is linked to i, and none between is
 pub record Least-link (a : Alignment) (i j r : ℕ) : Type 0 where

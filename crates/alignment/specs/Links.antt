@@ -1,5 +1,5 @@
 -- The links of an alignment: how many there are, which words have one, which comes next, and all of them in order.
-use mathlib.Core.Bool.{Bool, true, false, _||_, cond}
+use mathlib.Core.Bool.{Bool, false, _||_, cond}
 use mathlib.Core.List.{List, [], _∷_, _++_}
 use Prim.Native.Nat.{ℕ, zero, suc, _+_, _-_}
 use Rattle.std.specs.declared.option.Option.{Option}

@@ -1,8 +1,8 @@
 -- The links of a sheet, carried over by way of its text.
 use mathlib.Core.Path.{_≡_, refl, sym, ap, _∙_}
 use mathlib.Core.Bool.{Bool, true, false, cond}
-use mathlib.Core.List.{List, _++_}
-use Prim.Native.Nat.{ℕ, _+_, _-_, _≤_}
+use mathlib.Core.List.{List}
+use Prim.Native.Nat.{ℕ, _+_, _-_}
 use native.Mathlib.Omega.{arith}
 use lib.Dec.{leb}
 use lib.ListN.{length, take, drop}
@@ -10,7 +10,7 @@ use Rattle.std.specs.declared.result.Result.{Result}
 use Rattle.std.specs.declared.result.Result.the-variants.{Ok, Err}
 use Rattle.std.proofs.shelf.Lists.{drop-append-le, take-at, length-drop}
 use Rattle.std.proofs.shelf.Tests.{cond-true, le-leb, leb-true}
-use Rattle.alignment.specs.Alignment.{Alignment, Proper, unlinked}
+use Rattle.alignment.specs.Alignment.{Alignment, Proper}
 use Rattle.alignment.specs.Links.{links}
 use Rattle.sheet.specs.Edits.{State}
 use Rattle.sheet.specs.declared.refusal.Refusal.{Refusal}

@@ -1,6 +1,5 @@
 -- The sheet that a text tells of, by what opening and loading it gave.
 use mathlib.Core.Path.{_≡_, refl, sym, ap, _∙_}
-use mathlib.Core.Bool.{cond}
 use mathlib.Core.List.{List}
 use Prim.Native.Nat.{ℕ, _+_, _-_, _*_, _≤_}
 use native.Mathlib.Omega.{arith}
@@ -10,7 +9,7 @@ use Rattle.std.specs.declared.result.Result.{Result}
 use Rattle.std.specs.declared.result.Result.the-variants.{Ok, Err}
 use Rattle.std.proofs.shelf.Tests.{cond-true, cond-false, eq-eqb, ne-eqb, le-leb}
 use Rattle.std.proofs.shelf.Lists.{take-rest}
-use Rattle.alignment.specs.Alignment.{Alignment, unlinked}
+use Rattle.alignment.specs.Alignment.{unlinked}
 use Rattle.alignment.specs.Links.{links}
 use Rattle.alignment.proofs.Counts.{links-none}
 use Rattle.grid.specs.Blocks.{laid-state}
@@ -19,7 +18,7 @@ use Rattle.sheet.specs.Edits.{State}
 use Rattle.sheet.specs.declared.refusal.Refusal.the-variants.{NoLinks}
 use Rattle.text.specs.Lines.{lines, line-end}
 use Rattle.text.specs.Records.{and-then}
-use Rattle.text.specs.Loading.{Loaded, As-linkings, links-told, opening, loading, loaded, fault-at}
+use Rattle.text.specs.Loading.{As-linkings, links-told, opening, loading, loaded, fault-at}
 use Rattle.text.specs.declared.fault.Fault.{Fault}
 use Rattle.text.specs.declared.fault.RecordFault.the-variants.{Sheet}
 use Rattle.engine.specs.Listing.{blank, with-links, loaded-sheet, sheet-in}

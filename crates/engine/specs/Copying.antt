@@ -12,7 +12,7 @@ use Rattle.alignment.specs.Links.{links}
 use Rattle.sheet.specs.Edits.{State}
 use Rattle.sheet.specs.declared.refusal.Refusal.the-variants.{BlockTooShort}
 use Rattle.text.specs.Lines.{lines}
-use Rattle.text.specs.Loading.{Loaded, loading}
+use Rattle.text.specs.Loading.{loading}
 use Rattle.text.specs.Written.{body-text, sheet-text, wrote}
 use Rattle.text.specs.declared.fault.Fault.{Fault}
 use Rattle.engine.specs.declared.copying.CopyFault.{CopyFault}

@@ -1,7 +1,6 @@
 //! Carrying the links of one sheet over to another by way of their text.
 
 ghost use mathlib.Core.Path.{_≡_};
-ghost use lib.ListN.{length};
 ghost use Rattle.engine.specs.declared.copying.CopyFault.the-variants.{Buffer, Text};
 use sheet::refusal::Refusal;
 use sheet::refusal::RefusalDebug;

@@ -1,10 +1,10 @@
 -- Reading digits, one digit on.
-use mathlib.Core.Path.{_≡_, refl, sym, ap, _∙_}
-use mathlib.Core.Bool.{Bool, true, false}
-use mathlib.Core.List.{List, _∷_}
+use mathlib.Core.Path.{_≡_, sym, ap, _∙_}
+use mathlib.Core.Bool.{true, false}
+use mathlib.Core.List.{List}
 use mathlib.Core.Logic.{_⊎_, inl, inr}
-use Prim.Native.Nat.{ℕ, suc, _+_, _-_, _*_, _^_, _<_, _≤_}
-use native.Mathlib.Nat.{pow-suc, pow-le-pow-right}
+use Prim.Native.Nat.{ℕ, _+_, _-_, _*_, _^_, _<_, _≤_}
+use native.Mathlib.Nat.{pow-suc}
 use native.Mathlib.Numerals.{add-one}
 use native.Mathlib.Omega.{arith}
 use lib.ListN.{length, getD, drop}
@@ -28,9 +28,6 @@ value-on v xs k d h low high e =
 -- k digits write a number below 10 ^ k
 pub one-more-digit : (v d k : ℕ) → v < 10 ^ k → d < 10 → v * 10 + d < 10 ^ (k + 1)
 one-more-digit v d k small digit = omega (arith, ap (λ n. 10 ^ n) (add-one k), pow-suc 10 k)
-
-pub two-digits : (v k : ℕ) → v < 10 ^ k → k ≤ 2 → v < 100
-two-digits v k small few = let p : 10 ^ k ≤ 10 ^ 2 = pow-le-pow-right (omega arith) few in omega arith
 
 -- what is no number
 pub not-digits : (k : ℕ) (ds : List ℕ) → allDigits ds ≡ false → Err (Number k) ≡ number-in k ds

@@ -8,7 +8,7 @@ use denote.Ref.{RefT, now}
 use Rattle.std.specs.Options.{Cases}
 use Rattle.std.specs.declared.option.Option.{Option}
 use Rattle.std.specs.declared.option.Option.the-variants.{Some, None}
-use Rattle.std.specs.declared.result.Result.the-variants.{Ok, Err}
+use Rattle.std.specs.declared.result.Result.the-variants.{Err}
 use Rattle.text.specs.Letters.{tab}
 use Rattle.text.specs.Lines.{Lacks, pieces}
 use Rattle.text.specs.Records.{nothing}

@@ -8,9 +8,8 @@ use lib.Dec.{eqb}
 use lib.ListN.{length, getD}
 use Rattle.std.specs.declared.result.Result.{Result}
 use Rattle.std.specs.declared.result.Result.the-variants.{Ok, Err}
-use Rattle.std.proofs.shelf.Tests.{cases-bool, cond-true, cond-false, eq-eqb, ne-eqb}
-use mathlib.Core.Logic.{⊎-elim}
-use Rattle.text.specs.Letters.{letter, tab}
+use Rattle.std.proofs.shelf.Tests.{cond-true, cond-false, eq-eqb, ne-eqb}
+use Rattle.text.specs.Letters.{tab}
 use Rattle.text.specs.Lines.{pieces, fields, all-clean}
 use Rattle.text.specs.Records.{and-then, of-fields, two-numbers, nothing, headed, first-headed, heading, lengths-by, record-by, lengths-in, record-in, as-lengths}
 use Rattle.text.specs.declared.line.Record.the-variants.{Link, End}

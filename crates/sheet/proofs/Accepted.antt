@@ -1,12 +1,12 @@
 -- When an edit is accepted.
-use mathlib.Core.Path.{_≡_, refl, sym, ap, _∙_}
+use mathlib.Core.Path.{_≡_, refl, ap, _∙_}
 use mathlib.Core.Bool.{Bool, true, false, not, cond}
 use Prim.Native.Nat.{ℕ, _+_, _-_}
 use native.Mathlib.Omega.{arith}
 use lib.Dec.{eqb}
 use Rattle.std.specs.declared.result.Result.the-variants.{Ok, Err}
 use Rattle.std.proofs.shelf.Tests.{eqb-false, not-false}
-use Rattle.alignment.specs.Alignment.{Alignment, within}
+use Rattle.alignment.specs.Alignment.{within}
 use Rattle.alignment.specs.Links.{links}
 use Rattle.sheet.specs.Edits.{State, Outcome, with-link, refused, accepted, linking}
 use Rattle.sheet.proofs.EditLaws.{links-with, linking-taken}
@@ -32,15 +32,7 @@ linking-accepted s i j u e =
     let t = passed s i j u e in
     (linking-taken s i j (not-false _ (t .0)) (not-false _ (t .1)) (t .2) (t .3), eqb-false _ _ (t .3))
 
--- each link takes one that was free
-pub free-falls : (s : State) (i j : ℕ) (u : Unit {0}) → linking s i j .answer ≡ Ok u → linking s i j .after .free + 1 ≡ s .free
-free-falls s i j u e =
-    let t = linking-accepted s i j u e in
-    let f = ap (λ (o : Outcome). o .after .free) (t .0) in
-    let some = t .1 in
-    omega arith
-
--- and adds one to the links
+-- it adds one to the links
 pub links-rise : (s : State) (i j : ℕ) (u : Unit {0}) → linking s i j .answer ≡ Ok u → links (linking s i j .after .sheet) ≡ links (s .sheet) + 1
 links-rise s i j u e =
     let t = passed s i j u e in

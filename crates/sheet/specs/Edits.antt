@@ -1,6 +1,5 @@
 -- What an editable sheet adds to an alignment, and what each edit answers and leaves, in the order of its tests.
-use mathlib.Core.Path.{_≡_}
-use mathlib.Core.Bool.{Bool, true, false, _&&_, _||_, not, cond}
+use mathlib.Core.Bool.{Bool, _&&_, _||_, not, cond}
 use Prim.Native.Nat.{ℕ, _+_, _-_, _≤_}
 use lib.Dec.{eqb}
 use Rattle.std.specs.declared.result.Result.{Result}

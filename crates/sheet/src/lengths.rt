@@ -1,6 +1,5 @@
 //! A checked pair of lengths.
 
-ghost use mathlib.Core.Path.{_≡_};
 ghost use Prim.Native.Nat.{_≤_};
 
 /// The lengths of a sheet, each in 1..=512.

@@ -1,11 +1,10 @@
 -- A line of two numbers as it is written, read back.
-use mathlib.Core.Path.{_≡_, refl, sym, ap, _∙_}
-use mathlib.Core.Bool.{Bool, true, _&&_, cond}
+use mathlib.Core.Path.{_≡_, refl, ap, _∙_}
+use mathlib.Core.Bool.{true, _&&_}
 use mathlib.Core.List.{List, [], _∷_, _++_, append-nil, append-assoc}
-use Prim.Native.Nat.{ℕ, _<_, _≤_}
+use Prim.Native.Nat.{ℕ, _<_}
 use native.Mathlib.Omega.{arith}
-use lib.Dec.{eqb, leb}
-use Rattle.std.specs.Text.{In, asciiDigit}
+use Rattle.std.specs.Text.{asciiDigit}
 use Rattle.std.specs.Written.{decimal}
 use Rattle.std.specs.shelf.Text.{allDigits}
 use Rattle.std.specs.declared.result.Result.the-variants.{Ok}
@@ -13,16 +12,15 @@ use Rattle.std.proofs.shelf.Tests.{cond-true, and-from, and-parts}
 use Rattle.std.proofs.shelf.Ways.{tells}
 use Rattle.sheet.specs.Lengths.{length-fits}
 use Rattle.text.specs.Letters.{tab, feed, letter}
-use Rattle.text.specs.Lines.{Lacks, pieces, lines, line-end, fields, clean, all-clean}
+use Rattle.text.specs.Lines.{Lacks, pieces, lines, fields, clean, all-clean}
 use Rattle.text.specs.Records.{and-then, of-fields, two-numbers, number-in, first-headed, heading, lengths-by, record-by, lengths-in, record-in, as-lengths}
 use Rattle.text.specs.Written.{line, line-body}
 use Rattle.text.specs.declared.line.Head.{Head}
 use Rattle.text.specs.declared.line.Head.the-variants as heads
-use Rattle.text.specs.declared.line.Field.{Field}
 use Rattle.text.specs.declared.line.Field.the-variants.{Number}
 use Rattle.text.specs.declared.line.Record.the-variants.{Link, End}
 use Rattle.text.proofs.Numbers.{reads-back, no-digit, every}
-use Rattle.text.proofs.Pieces.{lacks-append, pieces-cut, pieces-whole, lines-cut, line-end-cut}
+use Rattle.text.proofs.Pieces.{lacks-append, pieces-cut, pieces-whole, lines-cut}
 
 digit-clean : (c : ℕ) → asciiDigit c ≡ true → clean c ≡ true
 digit-clean c e = grind (arith, tells)

@@ -1,21 +1,15 @@
 -- The definitions at small texts, by computation.
 use mathlib.Core.Path.{_≡_, refl}
-use mathlib.Core.Bool.{Bool, true, false, _||_}
-use mathlib.Core.List.{List, [], _∷_, _++_}
-use Prim.Native.Nat.{ℕ}
 use lib.Chars.{codes}
-use lib.Dec.{eqb}
 use Rattle.std.specs.Written.{digits}
-use Rattle.std.specs.declared.result.Result.{Result}
 use Rattle.std.specs.declared.result.Result.the-variants.{Ok, Err}
-use Rattle.alignment.specs.Alignment.{Alignment, unlinked}
+use Rattle.alignment.specs.Alignment.{unlinked}
 use Rattle.sheet.specs.Edits.{State, with-link}
 use Rattle.sheet.specs.declared.refusal.Refusal.the-variants as refusals
-use Rattle.text.specs.Lines.{lines, fields, front, pieces}
+use Rattle.text.specs.Lines.{lines, fields}
 use Rattle.text.specs.Records.{lengths-in, record-in, heading, number-in}
 use Rattle.text.specs.Loading.{opening, loading, fault-at}
 use Rattle.text.specs.Written.{sheet-text, body-text, fault-line}
-use Rattle.text.specs.declared.fault.Fault.{Fault}
 use Rattle.text.specs.declared.fault.LineFault.the-variants.{Unended, ForeignByte}
 use Rattle.text.specs.declared.fault.FieldFault.the-variants.{Count, Number}
 use Rattle.text.specs.declared.fault.RecordFault.the-variants.{Line, Field, Head, Sheet}

@@ -1,8 +1,7 @@
 -- A number as it is written, read back.
-use mathlib.Core.Path.{_≡_, refl, sym, ap, _∙_}
-use mathlib.Core.Bool.{true, _&&_, _||_, not}
-use mathlib.Core.List.{List}
-use mathlib.Core.Logic.{_⊎_, inl, inr, ⊎-elim}
+use mathlib.Core.Path.{_≡_, refl, ap, _∙_}
+use mathlib.Core.Bool.{true, _||_, not}
+use mathlib.Core.Logic.{_⊎_, ⊎-elim}
 use Prim.Native.Nat.{ℕ, _^_, _<_, _≤_}
 use native.Mathlib.Omega.{arith}
 use lib.Dec.{eqb, leb}
@@ -14,7 +13,7 @@ use Rattle.std.specs.shelf.Text.{allDigits}
 use Rattle.std.specs.declared.result.Result.the-variants.{Ok}
 use Rattle.std.proofs.shelf.Decimals.{length-decimal-le, decimal-some, first-decimal, digits-decimal, value-decimal}
 use Rattle.std.proofs.shelf.Numerals.{Numerals, numerals-by-value, tells-allDigits, not-in-digits}
-use Rattle.std.proofs.shelf.Tests.{cond-true, and-from, or-left, or-right, le-leb, eq-eqb, ne-eqb, not-from-false, cases-eq}
+use Rattle.std.proofs.shelf.Tests.{cond-true, and-from, or-left, or-right, le-leb, ne-eqb, not-from-false, cases-eq}
 use Rattle.text.specs.Lines.{Lacks}
 use Rattle.text.specs.Records.{is-number, number-in}
 use Rattle.text.proofs.Pieces.{lacks-all}

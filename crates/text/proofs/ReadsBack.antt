@@ -1,14 +1,14 @@
 -- What is written of an alignment reads back to it.
 use mathlib.Core.Path.{_≡_, refl, sym, ap, _∙_}
 use mathlib.Core.Bool.{Bool, true, false, cond}
-use mathlib.Core.List.{List, [], _∷_, _++_, map, append-nil, append-assoc}
+use mathlib.Core.List.{List, [], _∷_, _++_, map, append-assoc}
 use mathlib.Core.Logic.{⊎-elim}
 use Prim.Native.Nat.{ℕ, zero, suc, _+_, _-_, _≤_, _<_}
 use native.Mathlib.Omega.{arith}
 use lib.ListN.{length, drop}
 use Rattle.std.specs.Joined.{joined}
 use Rattle.std.specs.declared.result.Result.the-variants.{Ok}
-use Rattle.std.proofs.shelf.Lists.{map-append, drop-drop, drop-at, length-push}
+use Rattle.std.proofs.shelf.Lists.{map-append, drop-at, length-push}
 use Rattle.std.proofs.shelf.Tests.{cases-bool, cond-true, cond-false, and-from, le-leb}
 use Rattle.alignment.specs.Alignment.{Alignment, Proper, unlinked}
 use Rattle.alignment.specs.Links.{count, sum, links, row, rows, in-order}

@@ -1,14 +1,14 @@
 -- The links of an alignment up to a place, in order, and what linking the next pair makes of them.
 use mathlib.Core.Path.{_≡_, refl, sym, ap, _∙_, fun-ext}
-use mathlib.Core.Bool.{Bool, true, false, _&&_, _||_, not, cond}
-use mathlib.Core.Logic.{_⊎_, inl, inr, ⊎-elim}
-use Prim.Native.Nat.{ℕ, suc, _+_, _-_, _≤_, _<_}
+use mathlib.Core.Bool.{Bool, true, false, _&&_, _||_}
+use mathlib.Core.Logic.{_⊎_, ⊎-elim}
+use Prim.Native.Nat.{ℕ, suc, _-_, _≤_, _<_}
 use native.Mathlib.Omega.{arith}
 use lib.Dec.{eqb, leb, ltb}
-use Rattle.std.proofs.shelf.Tests.{cases-bool, and-parts, eqb-true, eq-eqb, ne-eqb, le-leb, lt-leb, leb-true, or-cases, ltb-true, le-ltb, both-ways, cases-eq}
+use Rattle.std.proofs.shelf.Tests.{cases-bool, ne-eqb, both-ways, cases-eq}
 use Rattle.std.proofs.shelf.Ways.{tells}
-use Rattle.alignment.specs.Alignment.{Alignment, Proper, unlinked, within}
-use Rattle.sheet.specs.Edits.{State, same-pair, with-link, accepted, linking}
+use Rattle.alignment.specs.Alignment.{Alignment, Proper, unlinked}
+use Rattle.sheet.specs.Edits.{with-link, accepted, linking}
 use Rattle.sheet.proofs.EditLaws.{linking-taken}
 
 -- (x, y) comes no later than (i, j), by left word, then right word

@@ -7,10 +7,9 @@ use Rattle.std.specs.Iters.{folded}
 use Rattle.std.specs.declared.result.Result.{Result}
 use Rattle.std.specs.declared.result.Result.the-variants.{Ok, Err}
 use Rattle.alignment.specs.Links.{links}
-use Rattle.sheet.specs.Edits.{State, Outcome, linking}
+use Rattle.sheet.specs.Edits.{State, linking}
 use Rattle.sheet.specs.declared.refusal.Refusal.{Refusal}
 use Rattle.text.specs.Refused.{refused-field}
-use Rattle.text.specs.Lines.{lines}
 use Rattle.text.specs.Records.{lengths-in, record-in}
 use Rattle.text.specs.declared.line.Record.{Record}
 use Rattle.text.specs.declared.line.Record.the-variants.{Link, End}

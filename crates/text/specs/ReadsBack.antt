@@ -5,7 +5,6 @@ use lib.ListN.{drop}
 use Rattle.std.specs.declared.result.Result.the-variants.{Ok}
 use Rattle.alignment.specs.Alignment.{Alignment, unlinked}
 use Rattle.alignment.specs.Links.{links}
-use Rattle.sheet.specs.Edits.{State}
 use Rattle.text.specs.Lines.{lines, line-end}
 use Rattle.text.specs.Loading.{opening, loading, loaded}
 use Rattle.text.specs.Written.{body-text, sheet-text}

@@ -1,5 +1,4 @@
-use mathlib.Core.Path.{refl, sym, ap, _∙_}
-use native.Mathlib.Omega.{arith}
+use mathlib.Core.Path.{refl, sym, _∙_}
 use Rattle.std.proofs.shelf.Lists.{at-drop-all}
 use Rattle.std.proofs.shelf.Tests.{cond-true, cond-false}
 use Rattle.text.specs.Lines.{clean, all-clean}

@@ -1,11 +1,11 @@
-use mathlib.Core.Path.{refl, sym, ap, _∙_}
+use mathlib.Core.Path.{refl, sym, _∙_}
 use mathlib.Core.Logic.{inl, inr, ⊎-elim}
 use native.Mathlib.Omega.{arith}
 use Rattle.std.proofs.shelf.Lists.{at-drop-all}
 use Rattle.std.specs.Reads.{valueAfter}
 use Rattle.std.specs.Text.{asciiDigit}
 use Rattle.std.specs.shelf.Text.{allDigits}
-use Rattle.loader.proofs.Digits.{value-on, one-more-digit, two-digits, not-digits, not-short, not-bare, is-read}
+use Rattle.loader.proofs.Digits.{value-on, one-more-digit, not-digits, not-short, not-bare, is-read}
 use Rattle.loader.proofs.Each.{passes, fails}
 use Rattle.loader.proofs.record.number.Needs as need
 use Rattle.loader.proofs.record.number.Needs.{else-field-gt1·by·then-field-gt1·else-field-eq48, else-field-gt1·by·else-field-gt1}

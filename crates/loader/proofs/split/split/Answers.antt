@@ -1,7 +1,7 @@
 use borrow.Author.Needs.{needs}
 use native.Mathlib.Nat.{sub-zero}
 use native.Mathlib.Omega.{arith}
-use mathlib.Core.Path.{refl, sym, _∙_}
+use mathlib.Core.Path.{refl}
 use Rattle.std.proofs.shelf.Lists.{take-rest}
 use Rattle.text.proofs.Pieces.{split-at, lacks-below, lacks-all}
 use Rattle.loader.proofs.split.split.Needs as need
