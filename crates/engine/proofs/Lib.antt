@@ -1,4 +1,3 @@
 mod Sheets
 mod Whole
-mod Listed
 mod Copies

@@ -41,5 +41,5 @@ shown (Ok a) = sheet-text a
 shown (Err f) = fault-line f
 
 -- the output for a text, of which no more than its first bytes are read
-unfoldable pub listed : List ℕ → List ℕ
+abbrev pub listed : List ℕ → List ℕ
 listed text = shown (sheet-in (take most-bytes text))

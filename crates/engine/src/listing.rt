@@ -2,13 +2,14 @@
 
 ghost use mathlib.Core.Path.{_≡_};
 ghost use Prim.Native.Nat.{_≤_};
+ghost use lib.ListN.{take};
 ghost use Rattle.std.specs.Of.Vec.{vec-items, vec-len};
 ghost use Rattle.std.specs.Results.{Cases};
 ghost use Rattle.std.specs.Vec.{made};
 ghost use Rattle.std.specs.declared.result.Result.the-variants.{Ok, Err};
 ghost use Rattle.grid.specs.Grids.{alignment-of};
 ghost use Rattle.text.specs.Written.{sheet-text, fault-line};
-ghost use Rattle.engine.specs.Listing.{sheet-in, listed};
+ghost use Rattle.engine.specs.Listing.{most-bytes, sheet-in, shown, listed};
 use grid::grid::BLOCK_BYTES;
 use grid::grid::Grid;
 use grid::grid::GridEditable;
@@ -63,16 +64,30 @@ fn fault_bytes(heap: Global, fault: Fault) -> Result<Vec<u8>, AllocError>
     Ok(out)
 }
 
+/// The bytes of a text that are read.
+fn first_bytes(text: &[u8]) -> &[u8]
+    ensures { λ r. ⌜ now r ≡ take most-bytes (now (text .entry)) ⌝ }
+{
+    let read = text.len().min(MOST_BYTES);
+    &text[0..read]
+}
+
+/// The listing of a text that is read to its end.
+fn list_all(heap: Global, text: &[u8]) -> Result<Vec<u8>, AllocError>
+    ensures { λ r. ⌜ made r (λ v. vec-items v ≡ shown (sheet-in (now (text .entry)))) ⌝ }
+{
+    let block = vec![in heap; 0; BLOCK_BYTES]?;
+    match read_grid(text, block) {
+        Ok(grid) => sheet_bytes(heap, &grid),
+        Err(fault) => fault_bytes(heap, fault),
+    }
+}
+
 /// What the lister prints of a text: its sheet in the normal form, or the line of its first fault.
 ///
 /// Bytes past the first 65,536, and bytes after the end of the sheet, are not read. Only want of memory is an error.
 pub fn list(heap: Global, text: &[u8]) -> Result<Vec<u8>, AllocError>
     ensures { λ r. ⌜ made r (λ v. vec-items v ≡ listed (now (text .entry))) ⌝ }
 {
-    let block = vec![in heap; 0; BLOCK_BYTES]?;
-    let read = text.len().min(MOST_BYTES);
-    match read_grid(&text[0..read], block) {
-        Ok(grid) => sheet_bytes(heap, &grid),
-        Err(fault) => fault_bytes(heap, fault),
-    }
+    list_all(heap, first_bytes(text))
 }

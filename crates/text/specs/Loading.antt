@@ -18,6 +18,7 @@ use Rattle.text.specs.declared.fault.LineFault.the-variants.{Unended}
 use Rattle.text.specs.declared.fault.RecordFault.{RecordFault}
 use Rattle.text.specs.declared.fault.RecordFault.the-variants.{Line, Sheet}
 
+-- the fault of line k
 abbrev pub fault-at : ℕ → RecordFault → Fault
 fault-at k f = record { line = k; cause = f }
 
@@ -58,6 +59,7 @@ abbrev pub linked-on : ℕ → State → Result (Unit {0}) Refusal → (State �
 linked-on made s (Ok u) rest = rest s
 linked-on made s (Err e) rest = loaded (Err (fault-at (made + 2) (Sheet e (refused-field e)))) s
 
+-- one line by what it says: a fault, the end, or a link
 abbrev pub line-on : ℕ → State → Result Record RecordFault → (State → Loaded) → Loaded
 line-on made s (Err f) rest = loaded (Err (fault-at (made + 2) f)) s
 line-on made s (Ok End) rest = loaded (Ok made) s
