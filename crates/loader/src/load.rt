@@ -61,7 +61,10 @@ pub fn open(text: &[u8]) -> Result<(Lengths, usize), Fault>
 }
 
 /// Does what the next line says: links its words and gives the text after it, or gives none at the end.
-fn load_line<'a, S: Editable>(sheet: &mut S, text: &'a [u8]) -> Result<Option<&'a [u8]>, RecordFault>
+fn load_line<'a, S: Editable>(
+    sheet: &mut S,
+    text: &'a [u8],
+) -> Result<Option<&'a [u8]>, RecordFault>
     ensures { λ r. ⌜ Line-loaded (state (now (sheet .entry))) (now (text .entry)) r (state (now (sheet .exit))) ⌝ }
 {
     let (record, rest) = next_record(text)?;

@@ -2,6 +2,9 @@ use engine::copying::CopyFault;
 use engine::copying::CopyFaultDebug;
 use engine::copying::CopyFaultPartialEq;
 use engine::copying::copy_links;
+use engine::listing::Unlisted;
+use engine::listing::UnlistedDebug;
+use engine::listing::UnlistedPartialEq;
 use engine::listing::list;
 use grid::grid::BLOCK_BYTES;
 use grid::grid::Grid;
@@ -14,6 +17,7 @@ use sheet::refusal::RefusalDebug;
 use sheet::refusal::RefusalPartialEq;
 use sheet::sheet::Editable;
 use sheet::sheet::Sheet;
+use std::alloc::Global;
 use std::test::*;
 use text::fault::Fault;
 use text::fault::FaultDebug;
@@ -60,13 +64,32 @@ const LISTINGS: [(&str, &str); 29] = [
     ("S\t2\t2\n\t1\t1\nE\n", "F\trecord\t17\t2\t1\n"),
 ];
 
+fn check_listing(heap: Global, text: &str, listing: &str) -> Result<(), Fail> {
+    let mut got = Vec::new(heap);
+    list(text.as_bytes(), vec![in heap; 1; BLOCK_BYTES]?, &mut got)?;
+    check(got.as_slice() == listing.as_bytes()).note(text)
+}
+
 #[test]
 fn texts_are_listed(rt: LibcRuntime) -> Result<(), Fail> {
     for (text, listing) in LISTINGS {
-        let got = list(rt.alloc(), text.as_bytes())?;
-        check(got.as_slice() == listing.as_bytes()).note(text)?;
+        check_listing(rt.alloc(), text, listing)?;
     }
     Ok(())
+}
+
+#[test]
+fn a_listing_follows_what_is_there(rt: LibcRuntime) -> Result<(), Fail> {
+    let mut out = Vec::new(rt.alloc());
+    let short = vec![in rt.alloc(); 0; BLOCK_BYTES - 1]?;
+    check_eq(
+        list(b"", short, &mut out),
+        Err(Unlisted::Block(Refusal::BlockTooShort)),
+    )?;
+    check(out.is_empty())?;
+    list(b"", vec![in rt.alloc(); 0; BLOCK_BYTES]?, &mut out)?;
+    list(b"S\t1\t1\n", vec![in rt.alloc(); 0; BLOCK_BYTES]?, &mut out)?;
+    check(out.as_slice() == b"F\tline\t14\t1\t0\nF\tline\t14\t2\t0\n")
 }
 
 #[test]

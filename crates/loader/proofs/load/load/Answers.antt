@@ -15,9 +15,9 @@ returns-in-Break-tail g c =
     let text = lines (c .args .text .now) in
     let p = err-from-errBy (c .from-residual .result) (c .from-residual .ensures .1) in
     let done : loaded (c .from-residual .result) t ≡ loading 0 first text =
-      ap (λ r. loaded r t) (p .1 ∙ ap Err (p .2))
-      ∙ faulty (c .loop-tail .made) s t (c .loop-tail .rest .now) (c .load-line .result) (c .load-line .ensures) (c .in-Break-tail .field-0 .0) (c .in-Break-tail .ensures tt)
-      ∙ c .loop-tail .inv .0 in
+    ap (λ r. loaded r t) (p .1 ∙ ap Err (p .2))
+    ∙ faulty (c .loop-tail .made) s t (c .loop-tail .rest .now) (c .load-line .result) (c .load-line .ensures) (c .in-Break-tail .field-0 .0) (c .in-Break-tail .ensures tt)
+    ∙ c .loop-tail .inv .0 in
     record { done = done; linkings = as-linkings first text (c .from-residual .result) t done }
 
 pub returns : need.returns
@@ -28,6 +28,6 @@ returns g c =
     let text = lines (c .args .text .now) in
     let made = c .loop-tail .made in
     let done : loaded (Ok made) t ≡ loading 0 first text =
-      ended made s t (c .loop-tail .rest .now) (c .load-line .result) (c .load-line .ensures) (c .in-Continue-tail .field-0) (c .in-rest .is) (c .in-Continue-tail .ensures tt)
-      ∙ c .loop-tail .inv .0 in
+    ended made s t (c .loop-tail .rest .now) (c .load-line .result) (c .load-line .ensures) (c .in-Continue-tail .field-0) (c .in-rest .is) (c .in-Continue-tail .ensures tt)
+    ∙ c .loop-tail .inv .0 in
     record { done = done; linkings = as-linkings first text (Ok made) t done }

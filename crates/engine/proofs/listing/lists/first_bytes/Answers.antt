@@ -6,7 +6,7 @@ use native.Mathlib.Omega.{arith}
 use lib.ListN.{length, take}
 use Rattle.std.proofs.shelf.Lists.{take-all}
 use Rattle.std.proofs.shelf.Tests.{cases-lt}
-use Rattle.engine.proofs.listing.first_bytes.Needs as need
+use Rattle.engine.proofs.listing.lists.first_bytes.Needs as need
 
 -- a list that is shorter is all of its front
 front : (xs : List ℕ) (k n : ℕ) → k ≡ min (length xs) n → take (k - 0) xs ≡ take n xs

@@ -4,7 +4,7 @@ use Rattle.std.specs.declared.result.Result.the-variants.{Err}
 use Rattle.std.proofs.shelf.Results.{err-from-errBy}
 use Rattle.grid.specs.Grids.{state-of}
 use Rattle.engine.proofs.Sheets.{unopened, unloaded, without-links, is-loaded}
-use Rattle.engine.proofs.listing.read_grid.Needs as need
+use Rattle.engine.proofs.listing.lists.read_grid.Needs as need
 
 pub returns-in-Break-lengths : need.returns-in-Break-lengths
 returns-in-Break-lengths c =
