@@ -40,6 +40,7 @@ fn read_grid(text: &[u8], block: Vec<u8>) -> Result<Grid, Fault>
     let mut grid = Grid::lay(lengths, block);
     let links = load(&mut grid, &text[rest..])?;
     if links == 0 {
+        // No line made a link, so the end is line 2.
         return Err((2, RecordFault::from(Refusal::NoLinks)).into());
     }
     Ok(grid)
