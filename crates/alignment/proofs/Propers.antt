@@ -1,5 +1,5 @@
 -- What makes an alignment proper.
-use Rattle.std.proofs.Common.{◌≡◌, ℕ, ◌≤◌, Bool, true, arith}
+use Rattle.std.proofs.Common.{◌≡◌, ℕ, ◌≤◌, true, arith}
 use Rattle.std.proofs.lemmas.Bool.Decides.{nat_tests}
 use Rattle.alignment.specs.Alignment.{Alignment, Proper, within, most_words}
 

@@ -2,4 +2,6 @@
 //!
 //! Knows nothing of memory, of sheets as values, or of text.
 
+#![tactic(auto)]
+
 pub mod laws;

@@ -2,6 +2,8 @@
 //!
 //! May use the definitions of alignments and the traits of sheets. Knows nothing of other sheets, of text, or of where a block comes from.
 
+#![tactic(auto)]
+
 mod bits;
 pub mod grid;
 #[cfg(test)]

@@ -2,5 +2,7 @@
 //!
 //! May use the definitions of alignments and sheets. Knows nothing of any one implementation.
 
+#![tactic(auto)]
+
 pub mod operation;
 pub mod run;

@@ -2,6 +2,8 @@
 //!
 //! May use the definitions of alignments and the traits of sheets. Each layer owns the sheets below it, takes any kind of sheet, and knows nothing of any one.
 
+#![tactic(auto)]
+
 pub mod intersection;
 pub mod union;
 pub mod window;

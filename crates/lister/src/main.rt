@@ -2,6 +2,8 @@
 //!
 //! Only reads and prints: what is printed for a text is proved of `engine::listing::list`.
 
+#![tactic(auto)]
+
 use engine::listing::{MOST_BYTES, list};
 use grid::grid::BLOCK_BYTES;
 use std::alloc::AllocError;

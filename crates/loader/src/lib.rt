@@ -2,6 +2,8 @@
 //!
 //! May use what a sheet is and what its text holds. Knows no one sheet, and nothing of writing.
 
+#![tactic(auto)]
+
 pub mod load;
 mod record;
 mod split;

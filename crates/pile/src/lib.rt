@@ -2,6 +2,8 @@
 //!
 //! May use sheets, layers, histories and stacks. Knows nothing of any one kind of sheet.
 
+#![tactic(auto)]
+
 pub mod base;
 pub mod fixed;
 pub mod piles;

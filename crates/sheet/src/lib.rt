@@ -2,6 +2,8 @@
 //!
 //! May use the definitions of alignments. Knows nothing of any one implementation.
 
+#![tactic(auto)]
+
 pub mod lengths;
 pub mod refusal;
 pub mod sheet;

@@ -2,6 +2,8 @@
 //!
 //! May use sheets, layers and histories. Knows nothing of the sheets at the bottom.
 
+#![tactic(auto)]
+
 pub mod borrowed;
 mod edits;
 pub mod intersection;

@@ -2,5 +2,7 @@
 //!
 //! Has the definitions that both the loader and the writers keep to. Knows nothing of either.
 
+#![tactic(auto)]
+
 pub mod fault;
 pub mod line;

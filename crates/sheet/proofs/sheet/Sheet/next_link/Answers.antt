@@ -1,4 +1,4 @@
-use Rattle.std.proofs.Common.{◌≡◌, ◌+◌, ◌<◌, sym, ap, ◌∙◌, arith}
+use Rattle.std.proofs.Common.{◌+◌, ◌<◌, sym, ◌∙◌, arith}
 use Rattle.alignment.proofs.Least.{least_here, least_next}
 use Rattle.sheet.proofs.sheet.Sheet.next_link.Goals as goal
 
