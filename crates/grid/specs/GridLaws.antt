@@ -1,9 +1,8 @@
 -- What a grid's state is, and what its edits do to it.
-use Rattle.std.specs.Prelude.{◌≡◌, ℕ, zero, suc, ◌+◌, ◌-◌, ◌*◌, ◌/◌, ◌<◌, ◌≤◌, max, Bool, true, false, cond, not, ◌&&◌, ◌||◌, List, length, Ok, Err, vec_len, Result, Vec, ◌==◌, ◌≢◌, nat_eq, nat_le, refl}
-use Rattle.std.proofs.Common.{sym, ap, subst, ◌∙◌, ⊎_elim, arith}
+use Rattle.std.specs.Prelude.{◌≡◌, ℕ, zero, suc, ◌+◌, ◌-◌, ◌*◌, ◌/◌, ◌<◌, ◌≤◌, max, Bool, true, false, cond, not, ◌&&◌, ◌||◌, List, length, Err, ◌==◌, ◌≢◌, nat_eq, nat_le, refl}
+use Rattle.std.proofs.Common.{sym, ap, ◌∙◌, ⊎_elim, arith}
 use Rattle.std.proofs.Math.Path.{fun_ext}
-use Rattle.std.specs.Vec.{with_items}
-use Rattle.std.proofs.lemmas.List.{length-set, with_items_is}
+use Rattle.std.proofs.lemmas.List.{length-set}
 use Rattle.std.proofs.lemmas.Bool.{cases_Bool, ne_eqb, leb-true, and_parts, cond-true, cond-false, false≢true, both_ways, and_from, and_left, and_right, not_from_true, not_from_false}
 use Rattle.std.proofs.lemmas.Nat.{mul-le}
 use Rattle.alignment.specs.Alignment.{Alignment, within, unlinked}
@@ -12,10 +11,9 @@ use Rattle.alignment.proofs.Counts.{links_le, links_none}
 use Rattle.alignment.proofs.Least.{shifted, least_shifts, next_link_from_zero}
 use Rattle.sheet.specs.declared.lengths.Lengths.{Lengths}
 use Rattle.sheet.specs.declared.refusal.Refusal.{Refusal}
-use Rattle.sheet.specs.declared.refusal.Refusal.TheVariants.{LeftOutside, RightOutside}
-use Rattle.sheet.specs.Edits.{State, refused, Bounded, same_pair, with_link, without_link, accepted, linking, unlinking, wiping}
+use Rattle.sheet.specs.Edits.{State, Bounded, same_pair, with_link, without_link, accepted, linking, unlinking, wiping}
 use Rattle.alignment.proofs.Propers.{within_from}
-use Rattle.sheet.proofs.EditLaws.{same_pair_parts, links_with, links_without, linking_taken, unlinking_taken, linking_left_outside, linking_right_outside, unlinking_left_outside, unlinking_right_outside}
+use Rattle.sheet.proofs.EditLaws.{same_pair_parts, links_with, links_without, linking_taken, unlinking_taken}
 use Rattle.grid.specs.Layout.{bit_at, place, enough, block_bytes, grid_alignment, grid_free, grid_state}
 use Rattle.sheet.specs.Words.{check_words}
 use Rattle.sheet.proofs.Words.{by_word}

@@ -1,10 +1,10 @@
 -- Free and links together are the same after every history.
-use Rattle.std.proofs.Common.{◌≡◌, ℕ, ◌+◌, ◌-◌, Bool, true, false, cond, not, eqb, leb, List, [], ◌∷◌, length, sym, refl, ap, ◌∙◌, ⊎_elim, arith}
+use Rattle.std.proofs.Common.{◌≡◌, ◌+◌, ◌-◌, Bool, true, false, cond, not, eqb, leb, List, [], ◌∷◌, length, refl, ap, ◌∙◌, ⊎_elim, arith}
 use Rattle.std.proofs.lemmas.Bool.{eqb-false, not-false, cases_Bool, cond-true, cond-false}
 use Rattle.alignment.specs.Alignment.{within, unlinked}
 use Rattle.alignment.proofs.Counts.{links_none}
 use Rattle.sheet.specs.declared.refusal.Refusal.TheVariants.{LeftOutside, RightOutside, AlreadyLinked, NotLinked, NothingFree}
-use Rattle.sheet.specs.Edits.{State, Outcome, refused, accepted, with_link, without_link, linking, unlinking}
+use Rattle.sheet.specs.Edits.{State, Outcome, refused, accepted, with_link, without_link}
 use Rattle.sheet.proofs.EditLaws.{links_with, links_without}
 use Rattle.history.specs.declared.operation.Edit.{Edit}
 use Rattle.history.specs.declared.operation.Edit.TheVariants.{Link, Unlink, Wipe}

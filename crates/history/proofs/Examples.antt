@@ -1,5 +1,5 @@
 -- The definitions at small histories, by computation.
-use Rattle.std.proofs.Common.{◌≡◌, true, false, List, [], ◌∷◌, Some, None, refl}
+use Rattle.std.proofs.Common.{◌≡◌, false, List, [], ◌∷◌, Some, refl}
 use Rattle.alignment.specs.Links.{in_order}
 use Rattle.sheet.specs.declared.refusal.Refusal.TheVariants.{LeftOutside, AlreadyLinked, NotLinked, NothingFree}
 use Rattle.sheet.specs.Edits.{started}

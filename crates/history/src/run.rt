@@ -11,8 +11,8 @@ use sheet::sheet::{Editable, Sheet};
 
 /// Makes an edit, and answers how it went.
 pub fn edit<S: Editable>(sheet: &mut S, edit: Edit) -> Answer
-    ensures answer { result ≡ told (editing (state sheet.old) edit).answer }
-    ensures after { state sheet.new ≡ (editing (state sheet.old) edit).after }
+    ensures answer { result ≡ told (editing (S.state sheet.old) edit).answer }
+    ensures after { S.state sheet.new ≡ (editing (S.state sheet.old) edit).after }
 {
     match edit {
         Edit::Link(left, right) => tell(sheet.link(left, right)),
@@ -26,7 +26,7 @@ pub fn edit<S: Editable>(sheet: &mut S, edit: Edit) -> Answer
 
 /// Asks a sheet that can take `free` more links, or that is not editable.
 pub fn look_up<S: Sheet>(sheet: &S, free: Option<u32>, question: LookUp) -> Answer
-    ensures { result ≡ looked_up (meaning sheet.now) free question }
+    ensures { result ≡ looked_up (S.meaning sheet.now) free question }
 {
     match question {
         LookUp::Lengths => {
@@ -44,8 +44,8 @@ pub fn look_up<S: Sheet>(sheet: &S, free: Option<u32>, question: LookUp) -> Answ
 
 /// Makes one operation.
 pub fn operate<S: Editable>(sheet: &mut S, operation: Operation) -> Answer
-    ensures answer { result ≡ answered (state sheet.old) operation }
-    ensures after { state sheet.new ≡ stepped (state sheet.old) operation }
+    ensures answer { result ≡ answered (S.state sheet.old) operation }
+    ensures after { S.state sheet.new ≡ stepped (S.state sheet.old) operation }
 {
     match operation {
         Operation::Edit(e) => edit(sheet, e),
@@ -61,8 +61,8 @@ pub fn run<S: Editable>(
     history: &[Operation],
     answers: &mut [Answer],
 ) -> Result<(), Refusal>
-    ensures done { ran result (state sheet.new) answers.new ≡ running (state sheet.old) history.now answers.old }
-    ensures conserved { places (state sheet.new) ≡ places (state sheet.old) }
+    ensures done { ran result (S.state sheet.new) answers.new ≡ running (S.state sheet.old) history.now answers.old }
+    ensures conserved { places (S.state sheet.new) ≡ places (S.state sheet.old) }
 {
     if answers.len() < history.len() {
         return Err(Refusal::BlockTooShort);

@@ -1,6 +1,7 @@
 -- What the record at the place of a link tells.
-use Rattle.std.proofs.Common.{◌≡◌, ℕ, zero, suc, ◌<◌, ◌≤◌, Bool, true, false, cond, ◌&&◌, eqb, List, [], ◌∷◌, length, get_or, Some, None, Decides, sym, refl, ap, ◌∙◌, subst, inl, inr, ⊎_elim, arith}
-use Rattle.std.proofs.lemmas.Bool.{cases_Bool, and_parts, and_from, eq-eqb, eqb-true, false≢true, or_right}
+use Rattle.std.proofs.Common.{◌≡◌, ℕ, zero, suc, ◌<◌, ◌≤◌, Bool, true, false, ◌&&◌, eqb, List, [], ◌∷◌, length, get_or, Some, None, sym, ap, ◌∙◌, subst, inl, inr, ⊎_elim, arith}
+use Rattle.std.proofs.lemmas.Bool.Decides.{nat_tests}
+use Rattle.std.proofs.lemmas.Bool.{or_right}
 use Rattle.alignment.specs.Links.{next_link}
 use Rattle.alignment.specs.Laws.{among, Before}
 use Rattle.alignment.proofs.Least.{next_is, next_is_none}
@@ -14,15 +15,8 @@ use Rattle.list.specs.ListLaws.{links_length, links_ascend, links_inside, link_a
 use Rattle.list.proofs.Places.{before_false, not_before, at_place, first_from_place, among_at_place, none_from_place}
 
 -- the test of two records for being the same
-pub records_compared : (b : Bool) (x y i j : ℕ) → cond b (Decides true (x ≡ i) × Decides true (y ≡ j)) ((Decides false (x ≡ i) → ⊥) → (Decides false (y ≡ j) → ⊥) → ⊥) → b ≡ (eqb i x && eqb j y)
-records_compared true x y i j h = sym (and_from _ _ (eq-eqb i x (sym (h.0.0 refl))) (eq-eqb j y (sym (h.1.0 refl))))
-records_compared false x y i j h =
-    ⊎_elim
-    (λ t.
-    let u = and_parts (eqb i x) (eqb j y) t in
-    absurd (h (λ d. false≢true (d.1 (sym (eqb-true i x u.0)))) (λ d. false≢true (d.1 (sym (eqb-true j y u.1))))))
-    (λ f. sym f)
-    (cases_Bool (eqb i x && eqb j y))
+pub records_compared : (b : Bool) (x y i j : ℕ) → b ≡ (eqb x i && eqb y j) → b ≡ (eqb i x && eqb j y)
+records_compared b x y i j h = h ∙ grind (arith, nat_tests)
 
 among_at : (ps : List (ℕ × ℕ)) (k : ℕ) (d : ℕ × ℕ) → k < length ps → among (get_or ps k d) ps ≡ true
 among_at [] k d h = absurd (omega arith)

@@ -58,7 +58,7 @@ fn load_line<'a, S: Editable>(
     sheet: &mut S,
     text: &'a [u8],
 ) -> Result<Option<&'a [u8]>, RecordFault>
-    ensures { LineLoaded (state sheet.old) text.now result (state sheet.new) }
+    ensures { LineLoaded (S.state sheet.old) text.now result (S.state sheet.new) }
 {
     let (record, rest) = next_record(text)?;
     match record {
@@ -74,8 +74,8 @@ fn load_line<'a, S: Editable>(
 ///
 /// Stops after the first end line. The links made before a fault stand.
 pub fn load<S: Editable>(sheet: &mut S, text: &[u8]) -> Result<u32, Fault>
-    ensures done { loaded result (state sheet.new) ≡ loading 0 (state sheet.old) (lines text.now) }
-    ensures linkings { AsLinkings (state sheet.old) (lines text.now) result (state sheet.new) }
+    ensures done { loaded result (S.state sheet.new) ≡ loading 0 (S.state sheet.old) (lines text.now) }
+    ensures linkings { AsLinkings (S.state sheet.old) (lines text.now) result (S.state sheet.new) }
 {
     let mut rest = text;
     let mut made = 0;

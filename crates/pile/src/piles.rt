@@ -23,7 +23,7 @@ use turned::swapped::Swapped;
 
 /// Asks the union of a sheet with its mirror. The sheet stands twice in it, lent.
 pub fn ask_with_mirror<S: Stacked>(sheet: &S, question: LookUp) -> Answer
-    ensures { result ≡ look_told (both union (over borrowed (stack sheet.now)) (over mirror (over borrowed (stack sheet.now)))) [] question }
+    ensures { result ≡ look_told (both union (over borrowed (S.stack sheet.now)) (over mirror (over borrowed (S.stack sheet.now)))) [] question }
 {
     let both = Union {
         first: sheet,

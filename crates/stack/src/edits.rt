@@ -11,7 +11,7 @@ use sheet::refusal::Refusal;
 
 /// What is free, where the sheet on top is editable.
 pub(crate) fn free<S: Stacked>(top: &S) -> Option<u32>
-    ensures { result ≡ free_of (stack top.now) }
+    ensures { result ≡ free_of (S.stack top.now) }
 {
     match top.look_up(&[], LookUp::Free) {
         Answer::Free(free) => Some(free),
@@ -32,7 +32,7 @@ pub(crate) fn check(lengths: Lengths, edit: Edit) -> Result<(), Refusal>
 
 /// A refusal, where the sheet below can be edited at all.
 pub(crate) fn refuse<S: Stacked>(below: &S, refusal: Refusal) -> Answer
-    ensures { result ≡ refused_where (free_of (stack below.now)) refusal }
+    ensures { result ≡ refused_where (free_of (S.stack below.now)) refusal }
 {
     match free(below) {
         Some(_) => Answer::Refused(refusal),

@@ -13,8 +13,8 @@ use sheet::sheet::Sheet;
 
 /// Makes one operation at its place.
 pub fn operate<S: Stacked>(top: &mut S, step: Step) -> Answer
-    ensures answer { result ≡ step_told (stack top.old) step.entry }
-    ensures after { stack top.new ≡ step_left (stack top.old) step.entry }
+    ensures answer { result ≡ step_told (S.stack top.old) step.entry }
+    ensures after { S.stack top.new ≡ step_left (S.stack top.old) step.entry }
 {
     match step.operation {
         Operation::Edit(edit) => top.edit(step.route, edit),
@@ -26,8 +26,8 @@ pub fn operate<S: Stacked>(top: &mut S, step: Step) -> Answer
 ///
 /// Fewer places for answers than operations are refused; then nothing is done.
 pub fn run<S: Stacked>(top: &mut S, history: &[Step], answers: &mut [Answer]) -> Result<(), Refusal>
-    ensures done { ran result (stack top.new) answers.new ≡ living (stack top.old) history.now answers.old }
-    ensures means { S.Sheet.meaning top.new ≡ reading (stack top.new) }
+    ensures done { ran result (S.stack top.new) answers.new ≡ living (S.stack top.old) history.now answers.old }
+    ensures means { S.Sheet.meaning top.new ≡ reading (S.stack top.new) }
 {
     if answers.len() < history.len() {
         return Err(Refusal::BlockTooShort);

@@ -1,5 +1,5 @@
 -- Loading does what the linkings of its lines do.
-use Rattle.std.proofs.Common.{◌≡◌, ℕ, ◌+◌, ◌-◌, List, [], ◌∷◌, length, Ok, Err, Result, sym, refl, ap, ◌∙◌, arith}
+use Rattle.std.proofs.Common.{◌≡◌, ℕ, ◌+◌, List, [], ◌∷◌, length, Ok, Err, Result, sym, refl, ap, ◌∙◌, arith}
 use Rattle.sheet.specs.Edits.{State, linking}
 use Rattle.sheet.specs.declared.refusal.Refusal.{Refusal}
 use Rattle.alignment.specs.Links.{links}

@@ -10,7 +10,7 @@ use sheet::sheet::Sheet;
 ///
 /// A walk that goes on after each link looks at each left word once, and once more for each link.
 pub(crate) fn next_in_order<S: Sheet>(sheet: &S, from: (u16, u16)) -> Option<(u16, u16)>
-    ensures { MatchOption result (before (meaning sheet.now) from.0 from.1 ≡ in_order (meaning sheet.now)) (Next (meaning sheet.now) from.0 from.1) }
+    ensures { MatchOption result (before (S.meaning sheet.now) from.0 from.1 ≡ in_order (S.meaning sheet.now)) (Next (S.meaning sheet.now) from.0 from.1) }
 {
     let (first, mut start) = from;
     for left in first..=sheet.lengths().left() {

@@ -45,7 +45,7 @@ fn lengthen(out: &mut Vec<u8>, more: usize) -> Result<usize, AllocError>
 
 /// Appends the text of a sheet in its normal form.
 fn append_sheet<S: Sheet>(out: &mut Vec<u8>, sheet: &S) -> Result<(), AllocError>
-    ensures { Appended out.old.items (vec_capacity out.old) (sheet_text (meaning sheet.now)) result out.new.items }
+    ensures { Appended out.old.items (vec_capacity out.old) (sheet_text (S.meaning sheet.now)) result out.new.items }
 {
     let at = lengthen(out, sheet_len(sheet))?;
     let _ = write_sheet(out, at, sheet);

@@ -5,5 +5,5 @@ use Rattle.list.proofs.shifts.remove_at.Goals as goal
 
 pub returns : goal.returns
 returns c =
-    ap (λ l. set l (c.args.count - 1) free_record) c.copy-within.ensures.after
+    ap (λ l. set l (c.args.count - 1) free_record) c.copy_within.ensures.after
     ∙ shifted_out c.args.records.now c.args.count c.args.k free_record c.requires.place c.requires.inside

@@ -6,18 +6,18 @@ use Rattle.sheet.proofs.Blocks.{lent_back}
 use Rattle.grid.specs.GridLaws.{grid_laid, no_links_laid}
 use Rattle.grid.proofs.grid.Grid.lay.Goals as goal
 
-pub invariant-of-result : goal.invariant-of-result
-invariant-of-result c =
+pub invariant_of-result : goal.invariant_of-result
+invariant_of-result c =
     let l = c.args.lengths in
     let block = c.args.block in
-    let new = lent_back block c.deref-mut.result.now c.clear-used.new.block laid c.deref-mut.ensures.value c.deref-mut.ensures.len c.clear-used.auto.block c.clear-used.ensures in
-    (sym (ap (λ x. links (grid_alignment l.left l.right x)) new ∙ no_links_laid l (vec_items block)), tt)
+    let new = lent_back block c.deref_mut.result.now c.clear_used.new.block laid c.deref_mut.ensures.value c.deref_mut.ensures.len c.clear_used.auto.block c.clear_used.ensures in
+    record { counted = sym (ap (λ x. links (grid_alignment l.left l.right x)) new ∙ no_links_laid l (vec_items block)) }
 
 pub returns : goal.returns
 returns c =
     let l = c.args.lengths in
     let block = c.args.block in
-    let new = lent_back block c.deref-mut.result.now c.clear-used.new.block laid c.deref-mut.ensures.value c.deref-mut.ensures.len c.clear-used.auto.block c.clear-used.ensures in
+    let new = lent_back block c.deref_mut.result.now c.clear_used.new.block laid c.deref_mut.ensures.value c.deref_mut.ensures.len c.clear_used.auto.block c.clear_used.ensures in
     record {
       lengths = refl;
       block = new;

@@ -19,4 +19,4 @@ pub returns-in-None-default : goal.returns-in-None-default
 returns-in-None-default g c =
     let u = c.args.self.now in
     united_next (g.P.Sheet.meaning u.first) (g.Q.Sheet.meaning u.second) c.args.left c.args.right (g.met.P.Sheet.proper u.first) (g.met.Q.Sheet.proper u.second)
-    None c.next-link-2.result (sym c.in-None-default.is-0 ∙ c.next_link.ensures) c.next-link-2.ensures
+    None c.next_link-2.result (sym c.in-None-default.is-0 ∙ c.next_link.ensures) c.next_link-2.ensures

@@ -3,7 +3,7 @@ use Rattle.std.proofs.lemmas.Bool.{false≢true}
 use Rattle.list.specs.ListLaws.{ordered_from}
 use Rattle.list.proofs.link_list.LinkList.lay.Goals as goal
 
-pub invariant-of-result : goal.invariant-of-result
-invariant-of-result c =
+pub invariant_of-result : goal.invariant_of-result
+invariant_of-result c =
     let l = c.args.lengths in
-    (omega arith, (ordered_from l.left l.right [] tt (λ i j on. absurd (false≢true on)), tt))
+    record { fits = omega arith; ordered = ordered_from l.left l.right [] tt (λ i j on. absurd (false≢true on)) }

@@ -2,7 +2,7 @@ use Rattle.std.proofs.Common.{◌≡◌, ◌+◌, ◌-◌, ◌/◌, None, sym, �
 use Rattle.alignment.proofs.Least.{none_from, next_found}
 use Rattle.turned.proofs.Last.{halved_up, halved_down, halved_last}
 use Rattle.turned.proofs.mirrored.Mirrored.last_link.Goals as goal
-use Rattle.turned.proofs.mirrored.Mirrored.last_link.Goals.{in-default-via-in-Some+else-word-high, in-default-via-in-None·}
+use Rattle.turned.proofs.mirrored.Mirrored.last_link.Goals.{in_default-via-in-Some+else-word-high, in_default-via-in_default}
 
 pub loop-low-smaller-then-word-high : goal.loop-low-smaller-then-word-high
 loop-low-smaller-then-word-high g c =
@@ -21,9 +21,9 @@ loop-low-preserved g c =
     let middle = c.loop-low.low + (c.loop-low.high - c.loop-low.low) / 2 in
     halved_down (a.linked c.args.left) c.args.last c.loop-low.low c.loop-low.high c.loop-low.found c.loop-low.invariant middle (omega arith) (omega arith)
     (λ t lo hi.
-    elim c.in-default.branch [
-      | in-default-via-in-Some+else-word-high w ↦ (next_found a c.args.left middle w.in-Some.word (sym w.in-Some.ensures)).first t lo (omega (arith, w.if-word-high.false))
-      | in-default-via-in-None· w ↦ let none : c.next_link.result ≡ None = cc in none_from a c.args.left middle (g.met.S.Sheet.proper c.args.self.now.below) (sym c.next_link.ensures ∙ none) t lo
+    elim c.in_default.branch [
+      | in_default-via-in-Some+else-word-high w ↦ (next_found a c.args.left middle w.in-Some.word (sym w.in-Some.ensures)).first t lo (omega (arith, w.if-word-high.false))
+      | in_default-via-in_default w ↦ let none : c.next_link.result ≡ None = cc in none_from a c.args.left middle (g.met.S.Sheet.proper c.args.self.now.below) (sym c.next_link.ensures ∙ none) t lo
     ])
 
 pub returns : goal.returns

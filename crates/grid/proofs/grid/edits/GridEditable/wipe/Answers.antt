@@ -7,20 +7,20 @@ use Rattle.sheet.proofs.Blocks.{lent_back}
 use Rattle.grid.specs.GridLaws.{grid_bounded, grid_wiped, no_links_laid}
 use Rattle.grid.proofs.grid.edits.GridEditable.wipe.Goals as goal
 
-pub invariant-of-self : goal.invariant-of-self
-invariant-of-self c =
+pub invariant_of-self : goal.invariant_of-self
+invariant_of-self c =
     let l = c.args.self.now.lengths in
     let block = c.args.self.now.block in
-    let new = lent_back block c.deref-mut.result.now c.clear-used.new.block laid c.deref-mut.ensures.value c.deref-mut.ensures.len c.clear-used.auto.block c.clear-used.ensures in
-    (sym (ap (λ x. links (grid_alignment l.left l.right x)) new ∙ no_links_laid l (vec_items block)), tt)
+    let new = lent_back block c.deref_mut.result.now c.clear_used.new.block laid c.deref_mut.ensures.value c.deref_mut.ensures.len c.clear_used.auto.block c.clear_used.ensures in
+    record { counted = sym (ap (λ x. links (grid_alignment l.left l.right x)) new ∙ no_links_laid l (vec_items block)) }
 
 pub returns : goal.returns
 returns c =
     let l = c.args.self.now.lengths in
     let block = c.args.self.now.block in
-    let new = lent_back block c.deref-mut.result.now c.clear-used.new.block laid c.deref-mut.ensures.value c.deref-mut.ensures.len c.clear-used.auto.block c.clear-used.ensures in
+    let new = lent_back block c.deref_mut.result.now c.clear_used.new.block laid c.deref_mut.ensures.value c.deref_mut.ensures.len c.clear_used.auto.block c.clear_used.ensures in
     record {
       done = ap (grid_state l.left l.right) new ∙ grid_wiped l (vec_items block);
-      bounded = grid_bounded l (vec_items (with_items block c.clear-used.new.block));
+      bounded = grid_bounded l (vec_items (with_items block c.clear_used.new.block));
       block = new;
     }

@@ -9,25 +9,25 @@ use Rattle.grid.specs.Grids.{alignment_of, bytes}
 use Rattle.grid.specs.BitLaws.{row_end}
 use Rattle.grid.specs.GridLaws.{not_linked_short, not_linked_left_outside, next_link_in_row}
 use Rattle.grid.proofs.grid.look_ups.GridSheet.next_link.Goals as goal
-use Rattle.grid.proofs.grid.look_ups.GridSheet.next_link.Goals.{then-not-keeps-links-via-then-not-keeps-links, then-not-keeps-links-via-else-not-keeps-links+then-not-has-left}
+use Rattle.grid.proofs.grid.look_ups.GridSheet.next_link.Goals.{then-not-keeps_links-via-then-not-keeps_links, then-not-keeps_links-via-else-not-keeps_links+then-not-has_left}
 
-pub returns-then-not-keeps-links : goal.returns-then-not-keeps-links
-returns-then-not-keeps-links c =
+pub returns-then-not-keeps_links : goal.returns-then-not-keeps_links
+returns-then-not-keeps_links c =
     let s = c.args.self.now in
     let l = s.lengths in
-    elim c.then-not-keeps-links.branch [
-      | then-not-keeps-links-via-then-not-keeps-links w ↦ sym (next_link_none (alignment_of s) c.args.left c.args.right
-          (λ t. not_linked_short l (bytes s) c.args.left t (sym w.if-not-keeps-links.ensures)))
-      | then-not-keeps-links-via-else-not-keeps-links+then-not-has-left w ↦ sym (next_link_none (alignment_of s) c.args.left c.args.right
-          (λ t. not_linked_left_outside l (bytes s) c.args.left t (sym w.if-not-has-left.ensures)))
+    elim c.then-not-keeps_links.branch [
+      | then-not-keeps_links-via-then-not-keeps_links w ↦ sym (next_link_none (alignment_of s) c.args.left c.args.right
+          (λ t. not_linked_short l (bytes s) c.args.left t (sym w.if-not-keeps_links.ensures)))
+      | then-not-keeps_links-via-else-not-keeps_links+then-not-has_left w ↦ sym (next_link_none (alignment_of s) c.args.left c.args.right
+          (λ t. not_linked_left_outside l (bytes s) c.args.left t (sym w.if-not-has_left.ensures)))
     ]
 
-pub first-set-requires : goal.first-set-requires
-first-set-requires c =
+pub first_set-requires : goal.first_set-requires
+first_set-requires c =
     let l = c.args.self.now.lengths in
-    let hi = sym c.if-not-has-left.ensures in
+    let hi = sym c.if-not-has_left.ensures in
     record {
-      long = omega (arith, leb-true _ _ (sym c.if-not-keeps-links.ensures), ap length c.deref.ensures.value);
+      long = omega (arith, leb-true _ _ (sym c.if-not-keeps_links.ensures), ap length c.deref.ensures.value);
       end = omega (arith, row_end l.left l.right c.args.left l.left_high l.right_low l.right_high hi, c.place-row.ensures.value);
     }
 
@@ -37,14 +37,14 @@ found_in_row c =
     let at = least_some (bit_at c.deref.result.now) (c.place-row.result + c.max.result - 1) _ c.in-Some.b (sym c.in-Some.ensures) in
     (omega (arith, at.low), omega (arith, at.high))
 
-pub overflow-sub-result : goal.overflow-sub-result
-overflow-sub-result c = (found_in_row c).0
+pub overflow_sub-result : goal.overflow_sub-result
+overflow_sub-result c = (found_in_row c).0
 
-pub overflow-add-result : goal.overflow-add-result
-overflow-add-result c = omega (arith, (found_in_row c).1)
+pub overflow_add-result : goal.overflow_add-result
+overflow_add-result c = omega (arith, (found_in_row c).1)
 
-pub overflow-cast-result : goal.overflow-cast-result
-overflow-cast-result c = omega (arith, (found_in_row c).1, c.args.self.now.lengths.right_high)
+pub overflow_cast-result : goal.overflow_cast-result
+overflow_cast-result c = omega (arith, (found_in_row c).1, c.args.self.now.lengths.right_high)
 
 -- the search among the bits of a row is the search for the next link
 search_in_row : (s : Grid) (i j row first rights : ℕ) (block : List ℕ) → enough (bytes s) ≡ true → within s.lengths.left i ≡ true → row ≡ place s.lengths.right i 1 → first ≡ max j 1 → rights ≡ s.lengths.right → block ≡ bytes s → shifted row 1 (least (bit_at block) (row + first - 1) (row + rights - (row + first - 1))) ≡ next_link (alignment_of s) i j
@@ -56,10 +56,10 @@ pub returns-in-Some : goal.returns-in-Some
 returns-in-Some c =
     ap (shifted c.place-row.result 1) c.in-Some.ensures
     ∙ search_in_row c.args.self.now c.args.left c.args.right c.place-row.result c.max.result c.right.result c.deref.result.now
-    (sym c.if-not-keeps-links.ensures) (sym c.if-not-has-left.ensures) c.place-row.ensures.value c.max.ensures c.right.ensures c.deref.ensures.value
+    (sym c.if-not-keeps_links.ensures) (sym c.if-not-has_left.ensures) c.place-row.ensures.value c.max.ensures c.right.ensures c.deref.ensures.value
 
 pub returns-in-None : goal.returns-in-None
 returns-in-None c =
     ap (shifted c.place-row.result 1) c.in-None.ensures
     ∙ search_in_row c.args.self.now c.args.left c.args.right c.place-row.result c.max.result c.right.result c.deref.result.now
-    (sym c.if-not-keeps-links.ensures) (sym c.if-not-has-left.ensures) c.place-row.ensures.value c.max.ensures c.right.ensures c.deref.ensures.value
+    (sym c.if-not-keeps_links.ensures) (sym c.if-not-has_left.ensures) c.place-row.ensures.value c.max.ensures c.right.ensures c.deref.ensures.value

@@ -14,13 +14,13 @@ use Rattle.sheet.proofs.Blocks.{lent_back}
 use Rattle.list.specs.ListLaws.{list_bounded}
 use Rattle.list.proofs.link_list.edits.LinkListEditable.link.Goals as goal
 
-pub returns-in-err-check-words : goal.returns-in-err-check-words
-returns-in-err-check-words c =
+pub returns-in_err-check_words : goal.returns-in_err-check_words
+returns-in_err-check_words c =
     let s = c.args.self.now in
-    let p = err_from_is_err_and c.from-residual.result c.from-residual.ensures.1 in
+    let p = err_from_is_err_and c.from_residual.result c.from_residual.ensures.1 in
     record {
       done = ap (λ x. outcome x (state_of s)) (p.1 ∙ ap Err p.2)
-          ∙ sym (linking_outside (state_of s) c.args.left c.args.right c.in-err-check-words.field-0.0 c.in-err-check-words.ensures);
+          ∙ sym (linking_outside (state_of s) c.args.left c.args.right c.in_err-check_words.field-0.0 c.in_err-check_words.ensures);
       bounded = list_bounded s;
       block = block_kept s;
       kept = λ _. refl;
@@ -29,7 +29,7 @@ returns-in-err-check-words c =
 pub returns-then-linked : goal.returns-then-linked
 returns-then-linked c =
     let s = c.args.self.now in
-    let w = words_within s.lengths.left s.lengths.right c.args.left c.args.right c.in-ok-check-words.ensures in
+    let w = words_within s.lengths.left s.lengths.right c.args.left c.args.right c.in_ok-check_words.ensures in
     let on = sym c.if-linked.ensures in
     record {
       done = sym (linking_already_linked (state_of s) c.args.left c.args.right w.0 w.1 on);
@@ -41,7 +41,7 @@ returns-then-linked c =
 pub returns-then-free-eq0 : goal.returns-then-free-eq0
 returns-then-free-eq0 c =
     let s = c.args.self.now in
-    let w = words_within s.lengths.left s.lengths.right c.args.left c.args.right c.in-ok-check-words.ensures in
+    let w = words_within s.lengths.left s.lengths.right c.args.left c.args.right c.in_ok-check_words.ensures in
     let off = sym c.if-linked.ensures in
     record {
       done = sym (linking_nothing_free (state_of s) c.args.left c.args.right w.0 w.1 off (sym c.free.ensures.value ∙ c.if-free-eq0.true));
@@ -50,40 +50,40 @@ returns-then-free-eq0 c =
       kept = λ _. refl;
     }
 
-pub insert-at-requires : goal.insert-at-requires
-insert-at-requires c =
+pub insert_at-requires : goal.insert_at-requires
+insert_at-requires c =
     let s = c.args.self.now in
     record {
       place = omega (arith, c.place-k.ensures, at_low s c.args.left c.args.right);
-      room = omega (arith, c.free.ensures.value, c.if-free-eq0.false, s.fits, c.deref-mut.ensures.len);
+      room = omega (arith, c.free.ensures.value, c.if-free-eq0.false, s.fits, c.deref_mut.ensures.len);
     }
 
-pub invariant-of-self : goal.invariant-of-self
-invariant-of-self c =
+pub invariant_of-self : goal.invariant_of-self
+invariant_of-self c =
     let s = c.args.self.now in
     let link : LinkRecord = record { left = c.args.left; right = c.args.right } in
-    let w = words_within s.lengths.left s.lengths.right c.args.left c.args.right c.in-ok-check-words.ensures in
+    let w = words_within s.lengths.left s.lengths.right c.args.left c.args.right c.in_ok-check_words.ensures in
     let off = sym c.if-linked.ensures in
     let more : s.count < room (records_of s) = omega (arith, c.free.ensures.value, c.if-free-eq0.false) in
     let new =
-    lent_back s.block c.deref-mut.result.now c.insert-at.new.records (λ x. insert (take s.count x) c.place-k.result link ++ drop (s.count + 1) x)
-    c.deref-mut.ensures.value c.deref-mut.ensures.len c.insert-at.auto.records c.insert-at.ensures
+    lent_back s.block c.deref_mut.result.now c.insert_at.new.records (λ x. insert (take s.count x) c.place-k.result link ++ drop (s.count + 1) x)
+    c.deref_mut.ensures.value c.deref_mut.ensures.len c.insert_at.auto.records c.insert_at.ensures
     ∙ ap (λ k. insert (take s.count (records_of s)) k link ++ drop (s.count + 1) (records_of s)) c.place-k.ensures in
-    let e = linked_in s c.args.left c.args.right w.0 w.1 off more (vec_items (with_items s.block c.insert-at.new.records)) new in
-    (e.fits, (e.ordered, tt))
+    let e = linked_in s c.args.left c.args.right w.0 w.1 off more (vec_items (with_items s.block c.insert_at.new.records)) new in
+    record { fits = e.fits; ordered = e.ordered }
 
 pub returns : goal.returns
 returns c =
     let s = c.args.self.now in
     let link : LinkRecord = record { left = c.args.left; right = c.args.right } in
-    let w = words_within s.lengths.left s.lengths.right c.args.left c.args.right c.in-ok-check-words.ensures in
+    let w = words_within s.lengths.left s.lengths.right c.args.left c.args.right c.in_ok-check_words.ensures in
     let off = sym c.if-linked.ensures in
     let more : s.count < room (records_of s) = omega (arith, c.free.ensures.value, c.if-free-eq0.false) in
     let new =
-    lent_back s.block c.deref-mut.result.now c.insert-at.new.records (λ x. insert (take s.count x) c.place-k.result link ++ drop (s.count + 1) x)
-    c.deref-mut.ensures.value c.deref-mut.ensures.len c.insert-at.auto.records c.insert-at.ensures
+    lent_back s.block c.deref_mut.result.now c.insert_at.new.records (λ x. insert (take s.count x) c.place-k.result link ++ drop (s.count + 1) x)
+    c.deref_mut.ensures.value c.deref_mut.ensures.len c.insert_at.auto.records c.insert_at.ensures
     ∙ ap (λ k. insert (take s.count (records_of s)) k link ++ drop (s.count + 1) (records_of s)) c.place-k.ensures in
-    let e = linked_in s c.args.left c.args.right w.0 w.1 off more (vec_items (with_items s.block c.insert-at.new.records)) new in
+    let e = linked_in s c.args.left c.args.right w.0 w.1 off more (vec_items (with_items s.block c.insert_at.new.records)) new in
     record {
       done = ap (outcome (Ok tt)) e.state
           ∙ sym (linking_taken (state_of s) c.args.left c.args.right w.0 w.1 off (ne_eqb _ _ (λ z. c.if-free-eq0.false (c.free.ensures.value ∙ z))));

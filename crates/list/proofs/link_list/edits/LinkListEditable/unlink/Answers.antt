@@ -13,13 +13,13 @@ use Rattle.sheet.proofs.Blocks.{lent_back}
 use Rattle.list.specs.ListLaws.{list_bounded}
 use Rattle.list.proofs.link_list.edits.LinkListEditable.unlink.Goals as goal
 
-pub returns-in-err-check-words : goal.returns-in-err-check-words
-returns-in-err-check-words c =
+pub returns-in_err-check_words : goal.returns-in_err-check_words
+returns-in_err-check_words c =
     let s = c.args.self.now in
-    let p = err_from_is_err_and c.from-residual.result c.from-residual.ensures.1 in
+    let p = err_from_is_err_and c.from_residual.result c.from_residual.ensures.1 in
     record {
       done = ap (λ x. outcome x (state_of s)) (p.1 ∙ ap Err p.2)
-          ∙ sym (unlinking_outside (state_of s) c.args.left c.args.right c.in-err-check-words.field-0.0 c.in-err-check-words.ensures);
+          ∙ sym (unlinking_outside (state_of s) c.args.left c.args.right c.in_err-check_words.field-0.0 c.in_err-check_words.ensures);
       bounded = list_bounded s;
       block = block_kept s;
       kept = λ _. refl;
@@ -28,7 +28,7 @@ returns-in-err-check-words c =
 pub returns-then-not-linked : goal.returns-then-not-linked
 returns-then-not-linked c =
     let s = c.args.self.now in
-    let w = words_within s.lengths.left s.lengths.right c.args.left c.args.right c.in-ok-check-words.ensures in
+    let w = words_within s.lengths.left s.lengths.right c.args.left c.args.right c.in_ok-check_words.ensures in
     let off = sym c.if-not-linked.ensures in
     record {
       done = sym (unlinking_not_linked (state_of s) c.args.left c.args.right w.0 w.1 off);
@@ -37,36 +37,36 @@ returns-then-not-linked c =
       kept = λ _. refl;
     }
 
-pub remove-at-requires : goal.remove-at-requires
-remove-at-requires c =
+pub remove_at-requires : goal.remove_at-requires
+remove_at-requires c =
     let s = c.args.self.now in
     let on = sym c.if-not-linked.ensures in
     record {
       place = omega (arith, c.place-k.ensures, at_inside s c.args.left c.args.right on);
-      inside = omega (arith, s.fits, c.deref-mut.ensures.len);
+      inside = omega (arith, s.fits, c.deref_mut.ensures.len);
     }
 
-pub invariant-of-self : goal.invariant-of-self
-invariant-of-self c =
+pub invariant_of-self : goal.invariant_of-self
+invariant_of-self c =
     let s = c.args.self.now in
     let on = sym c.if-not-linked.ensures in
     let new =
-    lent_back s.block c.deref-mut.result.now c.remove-at.new.records (λ x. remove (take s.count x) c.place-k.result ++ (free_record ∷ drop s.count x))
-    c.deref-mut.ensures.value c.deref-mut.ensures.len c.remove-at.auto.records c.remove-at.ensures
+    lent_back s.block c.deref_mut.result.now c.remove_at.new.records (λ x. remove (take s.count x) c.place-k.result ++ (free_record ∷ drop s.count x))
+    c.deref_mut.ensures.value c.deref_mut.ensures.len c.remove_at.auto.records c.remove_at.ensures
     ∙ ap (λ k. remove (take s.count (records_of s)) k ++ (free_record ∷ drop s.count (records_of s))) c.place-k.ensures in
-    let e = taken_out s c.args.left c.args.right on (vec_items (with_items s.block c.remove-at.new.records)) new in
-    (e.fits, (e.ordered, tt))
+    let e = taken_out s c.args.left c.args.right on (vec_items (with_items s.block c.remove_at.new.records)) new in
+    record { fits = e.fits; ordered = e.ordered }
 
 pub returns : goal.returns
 returns c =
     let s = c.args.self.now in
-    let w = words_within s.lengths.left s.lengths.right c.args.left c.args.right c.in-ok-check-words.ensures in
+    let w = words_within s.lengths.left s.lengths.right c.args.left c.args.right c.in_ok-check_words.ensures in
     let on = sym c.if-not-linked.ensures in
     let new =
-    lent_back s.block c.deref-mut.result.now c.remove-at.new.records (λ x. remove (take s.count x) c.place-k.result ++ (free_record ∷ drop s.count x))
-    c.deref-mut.ensures.value c.deref-mut.ensures.len c.remove-at.auto.records c.remove-at.ensures
+    lent_back s.block c.deref_mut.result.now c.remove_at.new.records (λ x. remove (take s.count x) c.place-k.result ++ (free_record ∷ drop s.count x))
+    c.deref_mut.ensures.value c.deref_mut.ensures.len c.remove_at.auto.records c.remove_at.ensures
     ∙ ap (λ k. remove (take s.count (records_of s)) k ++ (free_record ∷ drop s.count (records_of s))) c.place-k.ensures in
-    let e = taken_out s c.args.left c.args.right on (vec_items (with_items s.block c.remove-at.new.records)) new in
+    let e = taken_out s c.args.left c.args.right on (vec_items (with_items s.block c.remove_at.new.records)) new in
     record {
       done = ap (outcome (Ok tt)) e.state ∙ sym (unlinking_taken (state_of s) c.args.left c.args.right w.0 w.1 on);
       bounded = e.bounded;
