@@ -1,5 +1,5 @@
 -- The definitions at small stacks, by computation.
-use Rattle.std.proofs.Common.{◌≡◌, ℕ, List, [], ◌∷◌, refl}
+use Rattle.std.proofs.Common.{◌≡◌, [], ◌∷◌, refl}
 use Rattle.alignment.specs.Links.{in_order}
 use Rattle.alignment.specs.Alignment.{Alignment, unlinked}
 use Rattle.sheet.specs.declared.refusal.Refusal.TheVariants.{LeftOutside}

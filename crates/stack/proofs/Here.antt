@@ -1,5 +1,5 @@
 -- An edit of a swapped or mirrored layer, made through the sheet below or refused.
-use Rattle.std.proofs.Common.{◌≡◌, ℕ, List, [], Ok, Err, Option, Result, sym, refl, ap, ◌∙◌}
+use Rattle.std.proofs.Common.{◌≡◌, ℕ, List, [], Ok, Err, Option, sym, refl, ap, ◌∙◌}
 use Rattle.alignment.specs.Alignment.{Alignment}
 use Rattle.sheet.specs.declared.refusal.Refusal.{Refusal}
 use Rattle.history.specs.declared.operation.Edit.{Edit}

@@ -3,7 +3,7 @@ use Rattle.std.proofs.Common.{◌≡◌, ℕ, Bool, true, false, ◌&&◌, Some,
 use Rattle.std.proofs.lemmas.Bool.{cases_Bool, and_parts}
 use Rattle.std.proofs.lemmas.Bool.Decides.{nat_tests}
 use Rattle.alignment.specs.Alignment.{Alignment, within}
-use Rattle.alignment.specs.Layers.{swapped, mirrored, opposite}
+use Rattle.alignment.specs.Layers.{swapped, mirrored}
 use Rattle.sheet.specs.declared.refusal.Refusal.{Refusal}
 use Rattle.sheet.specs.Edits.{State, Outcome, outcome, refused}
 use Rattle.sheet.specs.Turns.{turned_state, turned_outcome}
@@ -12,7 +12,6 @@ use Rattle.sheet.proofs.EditLaws.{linking_left_outside, linking_right_outside, u
 use Rattle.sheet.proofs.Words.{words_within, by_word, linking_outside, unlinking_outside}
 use Rattle.history.specs.declared.operation.Edit.{Edit}
 use Rattle.history.specs.declared.operation.Edit.TheVariants.{Link, Unlink, Wipe}
-use Rattle.history.specs.declared.operation.Answer.{Answer}
 use Rattle.history.specs.Operations.{editing, told}
 use Rattle.stack.specs.Stacks.{Stack, base, fixed, over, both, borrowed, swap, mirror, window, reading, free_of}
 use Rattle.stack.specs.Places.{stand, told_here, swapped_edit, mirrored_edit, check_edit, refused_where, edited}

@@ -1,7 +1,6 @@
 -- Sheets that no edit reaches.
 use Rattle.std.proofs.Common.{◌≡◌, List, [], ◌∷◌, refl}
 use Rattle.history.specs.declared.operation.Edit.{Edit}
-use Rattle.history.specs.declared.operation.Answer.{Answer}
 use Rattle.history.specs.declared.operation.Answer.TheVariants.{Nowhere}
 use Rattle.stack.specs.declared.step.Turn.{Turn}
 use Rattle.stack.specs.declared.step.Turn.TheVariants.{First, Second}

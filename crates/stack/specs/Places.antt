@@ -13,7 +13,7 @@ use Rattle.history.specs.declared.operation.Answer.TheVariants.{Nowhere, Refused
 use Rattle.history.specs.Operations.{editing, told, looked_up}
 use Rattle.stack.specs.declared.step.Turn.{Turn}
 use Rattle.stack.specs.declared.step.Turn.TheVariants.{First, Second}
-use Rattle.stack.specs.Stacks.{Layer, borrowed, swap, mirror, window, Joint, Stack, base, fixed, over, both, reading, free_of}
+use Rattle.stack.specs.Stacks.{Layer, borrowed, swap, mirror, window, Stack, base, fixed, over, both, reading, free_of}
 
 -- A look-up at the end of a route answers of what stands there.
 abbrev pub look_told : Stack → List Turn → LookUp → Answer

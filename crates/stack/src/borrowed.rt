@@ -12,6 +12,8 @@ use sheet::sheet::Sheet;
 impl<'a, S: Stacked> Stacked for &'a S {
     ghost stack = { λ s. over borrowed (S.Stacked.stack s.now) };
 
+    ghost reads = { λ s. S.Stacked.reads s.now };
+
     fn look_up(&self, route: &[Turn], question: LookUp) -> Answer {
         match parted(route) {
             Way::Here => run::look_up(self, None, question),

@@ -5,13 +5,13 @@ use Rattle.text.specs.Lines.{clean, all_clean}
 use Rattle.loader.proofs.Each.{passes, fails}
 use Rattle.loader.proofs.record.check_bytes.Goals as goal
 
-pub returns-then-not-is-clean : goal.returns-then-not-is-clean
-returns-then-not-is-clean c =
-    sym (cond-false _ _ _ (sym c.loop-b.invariant ∙ fails clean all_clean (λ _ _. refl) c.args.line.now c.loop-b.b-index c.loop-b-test.true (sym c.if-not-is-clean.ensures)))
+pub returns-then-not-is_clean : goal.returns-then-not-is_clean
+returns-then-not-is_clean c =
+    sym (cond-false _ _ _ (sym c.loop-b.invariant ∙ fails clean all_clean (λ _ _. refl) c.args.line.now c.loop-b.b-index c.loop-b-test.true (sym c.if-not-is_clean.ensures)))
 
 pub loop-b-preserved : goal.loop-b-preserved
 loop-b-preserved c =
-    sym (passes clean all_clean (λ _ _. refl) c.args.line.now c.loop-b.b-index c.loop-b-test.true (sym c.if-not-is-clean.ensures)) ∙ c.loop-b.invariant
+    sym (passes clean all_clean (λ _ _. refl) c.args.line.now c.loop-b.b-index c.loop-b-test.true (sym c.if-not-is_clean.ensures)) ∙ c.loop-b.invariant
 
 pub returns : goal.returns
 returns c =

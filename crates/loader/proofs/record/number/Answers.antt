@@ -14,16 +14,16 @@ returns-then-field-eq0 c = not_short c.args.place c.args.field.now (⊎_elim inl
 pub returns-then-field-eq48 : goal.returns-then-field-eq48
 returns-then-field-eq48 c = not_bare c.args.place c.args.field.now c.if-field-gt1.true c.if-field-eq48.true
 
-pub returns-then-not-is-ascii-digit : goal.returns-then-not-is-ascii-digit
-returns-then-not-is-ascii-digit c =
-    not_digits c.args.place c.args.field.now (sym c.loop-b.invariant.0 ∙ fails is_ascii_digit all_ascii_digits (λ _ _. refl) c.args.field.now c.loop-b.b-index c.loop-b-test.true (sym c.if-not-is-ascii-digit.ensures.value))
+pub returns-then-not-is_ascii_digit : goal.returns-then-not-is_ascii_digit
+returns-then-not-is_ascii_digit c =
+    not_digits c.args.place c.args.field.now (sym c.loop-b.invariant.0 ∙ fails is_ascii_digit all_ascii_digits (λ _ _. refl) c.args.field.now c.loop-b.b-index c.loop-b-test.true (sym c.if-not-is_ascii_digit.ensures.value))
 
 pub loop-b-preserved : goal.loop-b-preserved
 loop-b-preserved c =
     let ds = c.args.field.now in
     let k = c.loop-b.b-index in
-    let digit = c.if-not-is-ascii-digit.ensures.cases in (
-      sym (passes is_ascii_digit all_ascii_digits (λ _ _. refl) ds k c.loop-b-test.true (sym c.if-not-is-ascii-digit.ensures.value)) ∙ c.loop-b.invariant.0,
+    let digit = c.if-not-is_ascii_digit.ensures.cases in (
+      sym (passes is_ascii_digit all_ascii_digits (λ _ _. refl) ds k c.loop-b-test.true (sym c.if-not-is_ascii_digit.ensures.value)) ∙ c.loop-b.invariant.0,
       sym (value_on c.loop-b.value ds k c.from.result c.loop-b-test.true (omega arith) (omega arith) c.from.ensures) ∙ c.loop-b.invariant.1,
       one_more_digit c.loop-b.value c.from.result k c.loop-b.invariant.2 (omega arith),
     )

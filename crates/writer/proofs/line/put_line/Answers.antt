@@ -20,8 +20,8 @@ bounds-out-end c =
     let same = length-set c.args.out.now c.args.at c.letter.result in
     omega arith
 
-pub slice-bounds-fill-field-end : goal.slice-bounds-fill-field-end
-slice-bounds-fill-field-end c =
+pub slice_bounds-fill_field-end : goal.slice_bounds-fill_field-end
+slice_bounds-fill_field-end c =
     let fits = field_within c.args.fields.now c.loop-field.field-index (Number 0) c.loop-field-test.true c.args.head in
     let same = length-set c.args.out.now c.args.at c.letter.result in
     search rules
@@ -37,7 +37,7 @@ loop-field-preserved c =
     let more = length_tabbed_more fs i (Number 0) l in
     let after-tab = then_byte end tab c.loop-field.invariant.1 c.loop-field.invariant.0 (omega arith) in
     let next = length-append (tabbed (take i fs)) (tab ∷ []) in
-    let after-field = then_part (end + 1) (end + 1 + c.field-len.result) (field_bytes (get_or fs i (Number 0))) after-tab (omega arith) (omega arith) (omega arith) c.fill-field.ensures in
+    let after-field = then_part (end + 1) (end + 1 + c.field_len.result) (field_bytes (get_or fs i (Number 0))) after-tab (omega arith) (omega arith) (omega arith) c.fill_field.ensures in
     (omega arith, wrote_same (sym (tabbed_more fs i (Number 0) l)) after-field)
 
 pub bounds-out-end-2 : goal.bounds-out-end-2

@@ -4,4 +4,4 @@ use Rattle.text.specs.Written.{line}
 use Rattle.writer.proofs.lines.fault_len.Goals as goal
 
 pub returns : goal.returns
-returns c = c.line-len.ensures heads.Fault ∙ ap (λ fs. length (line heads.Fault fs)) c.fault-fields.ensures
+returns c = c.line_len.ensures heads.Fault ∙ ap (λ fs. length (line heads.Fault fs)) c.fault_fields.ensures

@@ -4,8 +4,8 @@ use Rattle.std.proofs.lemmas.List.{drop_all, length-set}
 use Rattle.writer.proofs.Digits.{one_digit, one_more_digit, last_digit, first_digit}
 use Rattle.writer.proofs.number.fill_number.Goals as goal
 
-pub overflow-sub-last : goal.overflow-sub-last
-overflow-sub-last c = let some = decimal_nonempty c.args.number (omega arith) in omega arith
+pub overflow_sub-last : goal.overflow_sub-last
+overflow_sub-last c = let some = decimal_nonempty c.args.number (omega arith) in omega arith
 
 pub loop-rest-init : goal.loop-rest-init
 loop-rest-init c =
@@ -17,8 +17,8 @@ loop-rest-init c =
 pub bounds-part-last : goal.bounds-part-last
 bounds-part-last c = c.loop-rest.invariant.2
 
-pub overflow-sub-last-in-loop-rest : goal.overflow-sub-last-in-loop-rest
-overflow-sub-last-in-loop-rest c =
+pub overflow_sub-last-in-loop-rest : goal.overflow_sub-last-in-loop-rest
+overflow_sub-last-in-loop-rest c =
     let more = one_more_digit c.loop-rest.rest c.loop-rest-test.true (omega arith) in
     let some = decimal_nonempty (c.loop-rest.rest / 10) (omega arith) in
     omega arith

@@ -3,8 +3,8 @@ use Rattle.std.proofs.lemmas.Fmt.{length-decimal-le}
 use Rattle.writer.proofs.Digits.{one_digit, one_more_digit}
 use Rattle.writer.proofs.number.number_len.Goals as goal
 
-pub overflow-add-len : goal.overflow-add-len
-overflow-add-len c =
+pub overflow_add-len : goal.overflow_add-len
+overflow_add-len c =
     let most = length-decimal-le 10 c.args.number (omega arith) (omega arith) (omega arith) in
     omega arith
 

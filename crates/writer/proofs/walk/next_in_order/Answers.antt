@@ -13,7 +13,7 @@ pub loop-left-preserved : goal.loop-left-preserved
 loop-left-preserved g c =
     let a = g.S.Sheet.meaning c.args.sheet.now in
     let ok = g.met.S.Sheet.proper c.args.sheet.now in
-    next_row a ok c.loop-left.left c.loop-left.start (sym c.in-default.ensures) ∙ c.loop-left.invariant
+    next_row a ok c.loop-left.left c.loop-left.start (sym c.in_default.ensures) ∙ c.loop-left.invariant
 
 pub returns : goal.returns
 returns g c =
@@ -22,10 +22,10 @@ returns g c =
     let last = c.lengths.ensures.left in
     sym c.loop-left.invariant ∙ past_last a ok c.loop-left.left c.loop-left.start (omega arith)
 
-pub returns-in-default : goal.returns-in-default
-returns-in-default g c =
+pub returns-in_default : goal.returns-in_default
+returns-in_default g c =
     let a = g.S.Sheet.meaning c.args.sheet.now in
     let ok = g.met.S.Sheet.proper c.args.sheet.now in
     let left = c.loop-left.left in
     let last = c.lengths.ensures.left in
-    sym (next_row a ok left c.loop-left.start (sym c.in-default.ensures) ∙ c.loop-left.invariant) ∙ past_last a ok (left + 1) 1 (omega arith)
+    sym (next_row a ok left c.loop-left.start (sym c.in_default.ensures) ∙ c.loop-left.invariant) ∙ past_last a ok (left + 1) 1 (omega arith)

@@ -9,30 +9,30 @@ use Rattle.writer.proofs.SheetText.{length_sheet_text, wrote_parts}
 use Rattle.writer.proofs.Wrote.{wrote_none, wrote_same, then_all}
 use Rattle.writer.proofs.whole.put_sheet.Goals as goal
 
-pub put-line-end-requires : goal.put-line-end-requires
-put-line-end-requires g c =
+pub put_line-end-requires : goal.put_line-end-requires
+put_line-end-requires g c =
     let all = length_sheet_text (g.S.Sheet.meaning c.args.sheet.now) in
-    omega (arith, ap (λ fs. length (line heads.Sheet fs)) c.lengths-fields.ensures)
+    omega (arith, ap (λ fs. length (line heads.Sheet fs)) c.lengths_fields.ensures)
 
 pub loop-left-init : goal.loop-left-init
 loop-left-init g c =
     let all = length_sheet_text (g.S.Sheet.meaning c.args.sheet.now) in
-    let first = ap (λ fs. length (line heads.Sheet fs)) c.lengths-fields.ensures in
-    (omega arith, wrote_none c.put-line-end.new.out c.put-line-end.result (omega arith))
+    let first = ap (λ fs. length (line heads.Sheet fs)) c.lengths_fields.ensures in
+    (omega arith, wrote_none c.put_line-end.new.out c.put_line-end.result (omega arith))
 
-pub put-line-end-requires-in-Some : goal.put-line-end-requires-in-Some
-put-line-end-requires-in-Some g c =
+pub put_line-end-requires-in-Some : goal.put_line-end-requires-in-Some
+put_line-end-requires-in-Some g c =
     let a = g.S.Sheet.meaning c.args.sheet.now in
     let ok = g.met.S.Sheet.proper c.args.sheet.now in
     let all = length_sheet_text a in
-    let first = ap (λ fs. length (line heads.Sheet fs)) c.lengths-fields.ensures in
+    let first = ap (λ fs. length (line heads.Sheet fs)) c.lengths_fields.ensures in
     let this = ap (λ fs. length (line heads.Link fs)) c.pair_fields.ensures in
     let within = lines_within a ok c.loop-left.from.0 c.loop-left.from.1 c.in-Some.left c.in-Some.right c.in-Some.ensures in
     let here = c.loop-left.invariant.0 in
     omega arith
 
-pub overflow-add-from : goal.overflow-add-from
-overflow-add-from g c =
+pub overflow_add-from : goal.overflow_add-from
+overflow_add-from g c =
     let a = g.S.Sheet.meaning c.args.sheet.now in
     let ok = g.met.S.Sheet.proper c.args.sheet.now in
     let small = next_small a ok c.loop-left.from.0 c.loop-left.from.1 c.in-Some.left c.in-Some.right c.in-Some.ensures in
@@ -49,7 +49,7 @@ loop-left-preserved g c =
     let a = g.S.Sheet.meaning c.args.sheet.now in
     let ok = g.met.S.Sheet.proper c.args.sheet.now in
     let all = length_sheet_text a in
-    let first = ap (λ fs. length (line heads.Sheet fs)) c.lengths-fields.ensures in
+    let first = ap (λ fs. length (line heads.Sheet fs)) c.lengths_fields.ensures in
     let this = ap (λ fs. length (line heads.Link fs)) c.pair_fields.ensures in
     let next = c.in-Some.ensures in
     let i = c.loop-left.from.0 in
@@ -60,16 +60,16 @@ loop-left-preserved g c =
     let more = lines_more a ok i j left right next in
     let here = c.loop-left.invariant.0 in
     let long = ap length more ∙ length-append (flat_map link_line (before a i j)) (link_line (left, right)) in
-    let after = c.put-line-end-in-Some.ensures.after ∙ ap (λ fs. wrote c.loop-left.out c.loop-left.end (line heads.Link fs)) c.pair_fields.ensures in
+    let after = c.put_line-end-in-Some.ensures.after ∙ ap (λ fs. wrote c.loop-left.out c.loop-left.end (line heads.Link fs)) c.pair_fields.ensures in
     (omega arith, wrote_same (sym more) (then_all c.loop-left.end (link_line (left, right)) c.loop-left.invariant.1 here (omega arith) after))
 
-pub put-line-requires : goal.put-line-requires
-put-line-requires g c =
+pub put_line-requires : goal.put_line-requires
+put_line-requires g c =
     let a = g.S.Sheet.meaning c.args.sheet.now in
     let all = length_sheet_text a in
-    let first = ap (λ fs. length (line heads.Sheet fs)) c.lengths-fields.ensures in
+    let first = ap (λ fs. length (line heads.Sheet fs)) c.lengths_fields.ensures in
     let here = c.loop-left.invariant.0 in
-    omega (arith, ap (λ x. length (flat_map link_line x)) c.in-default.ensures)
+    omega (arith, ap (λ x. length (flat_map link_line x)) c.in_default.ensures)
 
 pub returns : goal.returns
 returns g c =
@@ -77,16 +77,16 @@ returns g c =
     let at = c.args.at in
     let a = g.S.Sheet.meaning c.args.sheet.now in
     let all = length_sheet_text a in
-    let fields = c.lengths-fields.ensures in
-    let first = c.put-line-end.ensures.end ∙ ap (λ fs. at + length (line heads.Sheet fs)) fields in
-    let walked = c.in-default.ensures in
+    let fields = c.lengths_fields.ensures in
+    let first = c.put_line-end.ensures.end ∙ ap (λ fs. at + length (line heads.Sheet fs)) fields in
+    let walked = c.in_default.ensures in
     let links = ap (λ x. length (flat_map link_line x)) walked in
     let here = c.loop-left.invariant.0 in
     record {
       end = omega arith;
       after =
-          wrote_parts a d at c.put-line-end.result c.loop-left.end (before a c.loop-left.from.0 c.loop-left.from.1) c.requires walked
-          first (c.put-line-end.ensures.after ∙ ap (λ fs. wrote d at (line heads.Sheet fs)) fields)
+          wrote_parts a d at c.put_line-end.result c.loop-left.end (before a c.loop-left.from.0 c.loop-left.from.1) c.requires walked
+          first (c.put_line-end.ensures.after ∙ ap (λ fs. wrote d at (line heads.Sheet fs)) fields)
           here c.loop-left.invariant.1
-          c.put-line.ensures.after;
+          c.put_line.ensures.after;
     }

@@ -1,4 +1,4 @@
-use Rattle.std.proofs.Common.{sym, ap, ◌∙◌}
+use Rattle.std.proofs.Common.{ap, ◌∙◌}
 use Rattle.alignment.specs.Alignment.{Alignment}
 use Rattle.stack.specs.Stacks.{mirror}
 use Rattle.stack.specs.Places.{mirrored_edit}
@@ -13,8 +13,8 @@ returns-in-Ok g c =
     let done =
     made_here mirror (λ a. mirrored_edit a.rights) mirror_passes (g.S.Stacked.stack below) c.args.route.now c.args.edit c.in-Here.ensures
     c.lengths-lengths.result.left c.lengths-lengths.result.right (c.lengths-lengths.ensures.left ∙ ap (λ (a : Alignment). a.lefts) reads) rights
-    c.mirror-words.result c.edit.result (g.S.Stacked.stack c.edit.new.self)
-    (c.mirror-words.ensures ∙ ap (λ m. mirrored_edit m c.args.edit) (c.right.ensures ∙ rights)) c.in-Ok.ensures c.edit.ensures.answer c.edit.ensures.after in
+    c.mirror_words.result c.edit.result (g.S.Stacked.stack c.edit.new.self)
+    (c.mirror_words.ensures ∙ ap (λ m. mirrored_edit m c.args.edit) (c.right.ensures ∙ rights)) c.in-Ok.ensures c.edit.ensures.answer c.edit.ensures.after in
     record { answer = done.answer; after = done.after }
 
 pub returns-in-Err : goal.returns-in-Err

@@ -1,4 +1,4 @@
-use Rattle.std.proofs.Common.{sym, ap, ◌∙◌}
+use Rattle.std.proofs.Common.{ap, ◌∙◌}
 use Rattle.alignment.specs.Alignment.{Alignment}
 use Rattle.stack.specs.Stacks.{swap}
 use Rattle.stack.specs.Places.{swapped_edit}
@@ -13,8 +13,8 @@ returns-in-Ok g c =
     made_here swap (λ a. swapped_edit) swap_passes (g.S.Stacked.stack below) c.args.route.now c.args.edit c.in-Here.ensures
     c.lengths.result.left c.lengths.result.right
     (c.lengths.ensures.left ∙ ap (λ (a : Alignment). a.rights) reads) (c.lengths.ensures.right ∙ ap (λ (a : Alignment). a.lefts) reads)
-    c.swap-words.result c.edit.result (g.S.Stacked.stack c.edit.new.self)
-    c.swap-words.ensures c.in-Ok.ensures c.edit.ensures.answer c.edit.ensures.after in
+    c.swap_words.result c.edit.result (g.S.Stacked.stack c.edit.new.self)
+    c.swap_words.ensures c.in-Ok.ensures c.edit.ensures.answer c.edit.ensures.after in
     record { answer = done.answer; after = done.after }
 
 pub returns-in-Err : goal.returns-in-Err
