@@ -1,5 +1,5 @@
 -- A text appended to a buffer that was made longer by just its length.
-use Rattle.std.proofs.Common.{◌≡◌, ℕ, ◌+◌, ◌-◌, true, cond, leb, List, [], ◌++◌, length, take, drop, replicate, Result, sym, ap, ◌∙◌, append-nil, arith, length-append}
+use Rattle.std.proofs.Common.{◌≡◌, ℕ, ◌+◌, ◌-◌, true, leb, List, ◌++◌, length, take, drop, replicate, Result, sym, ap, ◌∙◌, append-nil, arith, length-append}
 use lib.ListN.{length-replicate}
 use Rattle.std.proofs.lemmas.List.{drop_all, take_all, take_at}
 use Rattle.std.proofs.lemmas.Bool.{cond-true, le-leb}

@@ -7,6 +7,6 @@ pub returns : goal.returns
 returns c =
     let was = c.args.out.now.items in
     let longer = c.lengthen.new.out in
-    let zeros = ap (λ n. was ++ replicate n 0) c.fault-len.ensures in
-    written_after was (fault_line c.args.fault) c.deref-mut.result.now c.write-fault.new.out longer.items c.write-fault.result c.in-ok-at.at longer.len
-    (c.deref-mut.ensures.value ∙ c.in-ok-at.ensures.1 ∙ zeros) c.in-ok-at.ensures.0 (omega (arith, c.deref-mut.ensures.len)) c.write-fault.ensures
+    let zeros = ap (λ n. was ++ replicate n 0) c.fault_len.ensures in
+    written_after was (fault_line c.args.fault) c.deref_mut.result.now c.write_fault.new.out longer.items c.write_fault.result c.in_ok-at.at longer.len
+    (c.deref_mut.ensures.value ∙ c.in_ok-at.ensures.1 ∙ zeros) c.in_ok-at.ensures.0 (omega (arith, c.deref_mut.ensures.len)) c.write_fault.ensures
