@@ -8,8 +8,7 @@ use Rattle.std.proofs.lemmas.Bool.Decides.{Decides-below_and, nat_tests}
 use Rattle.std.proofs.lemmas.Nat.{mod_below, mul-add-lt, mul-le, shr-shr, div-mul-add, mod-mul-add, xor_shr, xor_mod}
 use Rattle.alignment.specs.Alignment.{within}
 use Rattle.sheet.specs.Edits.{same_pair}
-use Rattle.alignment.proofs.Propers.{within_parts}
-use Rattle.sheet.proofs.EditLaws.{same_pair_else}
+use Rattle.sheet.proofs.EditLaws.{within_parts, same_pair_else}
 use Rattle.grid.specs.Layout.{bit_at, place, block_bytes}
 use Rattle.grid.specs.Blocks.{flipped, cleared}
 

@@ -1,8 +1,9 @@
 -- What a grid's state is, and what its edits do to it.
-use Rattle.std.specs.Prelude.{◌≡◌, ℕ, zero, suc, ◌+◌, ◌-◌, ◌*◌, ◌/◌, ◌<◌, ◌≤◌, max, Bool, true, false, cond, not, ◌&&◌, ◌||◌, List, length, Err, ◌==◌, ◌≢◌, nat_eq, nat_le, refl}
-use Rattle.std.proofs.Common.{sym, ap, ◌∙◌, ⊎_elim, arith}
+use Rattle.std.specs.Prelude.{◌≡◌, ℕ, zero, suc, ◌+◌, ◌-◌, ◌*◌, ◌/◌, ◌<◌, ◌≤◌, max, Bool, true, false, cond, not, ◌&&◌, ◌||◌, List, length, Ok, Err, vec_items, vec_len, Result, Vec, ◌==◌, ◌≢◌, nat_eq, nat_le, refl}
+use Rattle.std.proofs.Common.{sym, ap, subst, ◌∙◌, ⊎_elim, arith}
 use Rattle.std.proofs.Math.Path.{fun_ext}
-use Rattle.std.proofs.lemmas.List.{length-set}
+use Rattle.std.specs.Vec.{with_items}
+use Rattle.std.proofs.lemmas.List.{length-set, with_items_is}
 use Rattle.std.proofs.lemmas.Bool.{cases_Bool, ne_eqb, leb-true, and_parts, cond-true, cond-false, false≢true, both_ways, and_from, and_left, and_right, not_from_true, not_from_false}
 use Rattle.std.proofs.lemmas.Nat.{mul-le}
 use Rattle.alignment.specs.Alignment.{Alignment, within, unlinked}
@@ -11,12 +12,11 @@ use Rattle.alignment.proofs.Counts.{links_le, links_none}
 use Rattle.alignment.proofs.Least.{shifted, least_shifts, next_link_from_zero}
 use Rattle.sheet.specs.declared.lengths.Lengths.{Lengths}
 use Rattle.sheet.specs.declared.refusal.Refusal.{Refusal}
-use Rattle.sheet.specs.Edits.{State, Bounded, same_pair, with_link, without_link, accepted, linking, unlinking, wiping}
-use Rattle.alignment.proofs.Propers.{within_from}
-use Rattle.sheet.proofs.EditLaws.{same_pair_parts, links_with, links_without, linking_taken, unlinking_taken}
+use Rattle.sheet.specs.declared.refusal.Refusal.TheVariants.{LeftOutside, RightOutside}
+use Rattle.sheet.specs.Edits.{State, refused, Bounded, same_pair, with_link, without_link, accepted, linking, unlinking, wiping}
+use Rattle.sheet.proofs.EditLaws.{same_pair_parts, links_with, links_without, linking_taken, unlinking_taken, within_from, linking_left_outside, linking_right_outside, unlinking_left_outside, unlinking_right_outside}
 use Rattle.grid.specs.Layout.{bit_at, place, enough, block_bytes, grid_alignment, grid_free, grid_state}
-use Rattle.sheet.specs.Words.{check_words}
-use Rattle.sheet.proofs.Words.{by_word}
+use Rattle.grid.specs.Words.{check_words}
 use Rattle.grid.specs.Blocks.{flipped, cleared, laid, laid_state, linked_block, unlinked_block}
 use Rattle.grid.specs.BitLaws.{flip_bits, length_cleared, no_bit_in_cleared, place_byte, place_tells_pair}
 
@@ -157,13 +157,39 @@ module _ (l : Lengths) (block : List ℕ) (i j : ℕ) where
   pub block_unlinked : (alignment l block).linked i j ≡ true → turned_over l block i j ≡ unlinked_block l.left l.right block i j
   block_unlinked on = sym (cond-true _ _ _ on)
 
--- an edit of words that the test refuses changes no byte
+-- what the test of two words tells, first for any two tests
+abbrev checked : Bool → Bool → Result (Unit {0}) Refusal
+checked x y = cond (not x) (Err LeftOutside) (cond (not y) (Err RightOutside) (Ok tt))
+
+both_pass : (x y : Bool) → Ok tt ≡ checked x y → (x ≡ true) × (y ≡ true)
+both_pass true true e = (refl, refl)
+both_pass true false e = let z : ◌≡◌ {A = ℕ} 0 1 = cc in absurd (omega arith)
+both_pass false y e = let z : ◌≡◌ {A = ℕ} 0 1 = cc in absurd (omega arith)
+
+first_fails : (P : Refusal → Type 0) (x y : Bool) (r : Refusal) → Err r ≡ checked x y → (x ≡ false → P LeftOutside) → (x ≡ true → y ≡ false → P RightOutside) → P r
+first_fails P true true r e left right = let z : ◌≡◌ {A = ℕ} 0 1 = cc in absurd (omega arith)
+first_fails P true false r e left right = let same : RightOutside ≡ r = cc in subst P same (right refl refl)
+first_fails P false y r e left right = let same : LeftOutside ≡ r = cc in subst P same (left refl)
+
+pub words_within : (l : Lengths) (i j : ℕ) → Ok tt ≡ check_words l.left l.right i j → (within l.left i ≡ true) × (within l.right j ≡ true)
+words_within l i j e = both_pass (within l.left i) (within l.right j) e
+
+-- an edit of words that the test refuses
 module _ (l : Lengths) (block : List ℕ) (i j : ℕ) (r : Refusal) (e : Err r ≡ check_words l.left l.right i j) where
+  by_word : (P : Refusal → Type 0) → (within l.left i ≡ false → P LeftOutside) → (within l.left i ≡ true → within l.right j ≡ false → P RightOutside) → P r
+  by_word P left right = first_fails P (within l.left i) (within l.right j) r e left right
+
+  pub linking_refused : linking (state l block) i j ≡ refused r (state l block)
+  linking_refused = by_word (λ x. linking (state l block) i j ≡ refused x (state l block)) (linking_left_outside (state l block) i j) (linking_right_outside (state l block) i j)
+
+  pub unlinking_refused : unlinking (state l block) i j ≡ refused r (state l block)
+  unlinking_refused = by_word (λ x. unlinking (state l block) i j ≡ refused x (state l block)) (unlinking_left_outside (state l block) i j) (unlinking_right_outside (state l block) i j)
+
   pub kept_refused : block ≡ linked_block l.left l.right block i j
-  kept_refused = by_word l.left l.right i j r e (λ _. block ≡ linked_block l.left l.right block i j) (kept_left_outside l block i j) (λ _. kept_right_outside l block i j)
+  kept_refused = by_word (λ _. block ≡ linked_block l.left l.right block i j) (kept_left_outside l block i j) (λ _. kept_right_outside l block i j)
 
   pub not_linked_refused : (alignment l block).linked i j ≡ false
-  not_linked_refused = by_word l.left l.right i j r e (λ _. (alignment l block).linked i j ≡ false) (not_linked_left_outside l block i j) (λ _. not_linked_right_outside l block i j)
+  not_linked_refused = by_word (λ _. (alignment l block).linked i j ≡ false) (not_linked_left_outside l block i j) (λ _. not_linked_right_outside l block i j)
 
 -- a test under two others, where one pair is turned over
 turned : (x y t u v w : Bool) → (x ≡ true → y ≡ true → u ≡ t) → (t ≡ true → (x ≡ true) × (y ≡ true)) → v ≡ cond u (not w) w → (x && (y && v)) ≡ cond t (not (x && (y && w))) (x && (y && w))
@@ -273,3 +299,7 @@ grid_laid l block =
 
 pub grid_wiped : (l : Lengths) (block : List ℕ) → state l (laid block) ≡ wiping (state l block)
 grid_wiped l block = grid_laid l block ∙ sym (ap (with_free (empty l)) (free_and_links l block))
+
+-- what a block holds that was lent out as a slice
+pub lent_back : {Z : Type 0} (v : Vec ℕ Z) (slice after : List ℕ) (f : List ℕ → List ℕ) → slice ≡ vec_items v → length slice ≡ vec_len v → length after ≡ length slice → after ≡ f slice → vec_items (with_items v after) ≡ f (vec_items v)
+lent_back v slice after f value len kept done = with_items_is v after (kept ∙ len) ∙ done ∙ ap f value

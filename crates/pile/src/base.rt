@@ -1,7 +1,7 @@
 //! An editable sheet, at the bottom of a stack.
 
 ghost use Rattle.stack.specs.Stacks.{base};
-ghost use Rattle.std.proofs.Common.{rules};
+ghost use Rattle.std.proofs.Common.{sym};
 
 use history::operation::{Answer, Edit, LookUp};
 use history::run;
@@ -39,7 +39,7 @@ impl<S: Editable> Sheet for Base<S> {
 impl<S: Editable> Stacked for Base<S> {
     ghost stack = { λ s. base (S.Editable.state s.sheet) };
 
-    ghost reads = { Prim.search rules };
+    ghost reads = { λ s. sym (S.Editable.means s.sheet) };
 
     fn look_up(&self, route: &[Turn], question: LookUp) -> Answer {
         match parted(route) {

@@ -76,7 +76,7 @@ fn a_listing_follows_what_is_there(rt: HostRuntime) -> Result<(), Fail> {
     assert!(rt; out.is_empty());
     list(b"", vec![in rt.alloc(); 0; BLOCK_BYTES]?, &mut out)?;
     list(b"S\t1\t1\n", vec![in rt.alloc(); 0; BLOCK_BYTES]?, &mut out)?;
-    assert!(rt; out.as_slice() == b"F\tline\t14\t1\t0\nF\tline\t14\t2\t0\n");
+    assert!(rt; out.as_slice() == b"F\tline\t14\t1\t0\nF\tline\t14\t2\t0\n".as_slice());
     Ok(())
 }
 

@@ -1,12 +1,17 @@
 -- What an edit does to the number of links, and what it answers where it is accepted.
-use Rattle.std.proofs.Common.{◌≡◌, ℕ, ◌+◌, ◌-◌, true, false, not, ◌&&◌, ◌||◌, eqb, sym, refl, ap, ◌∙◌, ⊎_elim}
-use Rattle.std.proofs.lemmas.Bool.{cases_Bool, eqb-true, eq-eqb, and_parts, and_from, cond-true, cond-false}
+use Rattle.std.proofs.Common.{◌≡◌, ℕ, ◌+◌, ◌-◌, ◌≤◌, true, false, not, ◌&&◌, ◌||◌, eqb, leb, sym, refl, ap, ◌∙◌, ⊎_elim}
+use Rattle.std.proofs.lemmas.Bool.{cases_Bool, eqb-true, eq-eqb, leb-true, le-leb, and_parts, and_from, cond-true, cond-false}
 use Rattle.alignment.specs.Alignment.{Alignment, within}
 use Rattle.alignment.specs.Links.{links}
 use Rattle.alignment.proofs.Counts.{links_one_more}
-use Rattle.alignment.proofs.Propers.{within_parts}
 use Rattle.sheet.specs.declared.refusal.Refusal.TheVariants.{LeftOutside, RightOutside, AlreadyLinked, NotLinked, NothingFree}
 use Rattle.sheet.specs.Edits.{State, same_pair, with_link, without_link, refused, accepted, linking, unlinking}
+
+pub within_parts : (n i : ℕ) → within n i ≡ true → (1 ≤ i) × (i ≤ n)
+within_parts n i h = let p = and_parts (leb 1 i) (leb i n) h in (leb-true _ _ p.0, leb-true _ _ p.1)
+
+pub within_from : (n i : ℕ) → 1 ≤ i → i ≤ n → within n i ≡ true
+within_from n i low high = and_from (leb 1 i) (leb i n) (le-leb 1 i low) (le-leb i n high)
 
 pub same_pair_parts : (i j a b : ℕ) → same_pair i j a b ≡ true → (a ≡ i) × (b ≡ j)
 same_pair_parts i j a b t = let u = and_parts (eqb a i) (eqb b j) t in (eqb-true _ _ u.0, eqb-true _ _ u.1)

@@ -1,7 +1,7 @@
 //! An intersection in a stack.
 
-ghost use Rattle.stack.specs.Stacks.{both, intersection};
-ghost use Rattle.std.proofs.Common.{rules};
+ghost use Rattle.stack.specs.Stacks.{both, intersection, joined};
+ghost use Rattle.std.proofs.Common.{ap₂};
 
 use crate::stacked::Stacked;
 use crate::step::{Turn, Way, parted};
@@ -14,7 +14,7 @@ use sheet::sheet::Sheet;
 impl<P: Stacked, Q: Stacked> Stacked for Intersection<P, Q> {
     ghost stack = { λ s. both intersection (P.Stacked.stack s.first) (Q.Stacked.stack s.second) };
 
-    ghost reads = { Prim.search rules };
+    ghost reads = { λ s. ap₂ (joined intersection) (P.Stacked.reads s.first) (Q.Stacked.reads s.second) };
 
     fn look_up(&self, route: &[Turn], question: LookUp) -> Answer {
         match parted(route) {

@@ -2,9 +2,9 @@
 
 ghost use Rattle.std.specs.Prelude.{◌≡◌, ◌≤◌};
 ghost use Rattle.alignment.specs.Alignment.{most_words};
-ghost use Rattle.stack.specs.Stacks.{over, mirror};
+ghost use Rattle.stack.specs.Stacks.{over, mirror, shown};
 ghost use Rattle.stack.specs.Places.{mirrored_edit};
-ghost use Rattle.std.proofs.Common.{rules};
+ghost use Rattle.std.proofs.Common.{ap};
 
 use crate::edits::{check, free, refuse};
 use crate::stacked::Stacked;
@@ -18,7 +18,7 @@ use turned::mirrored::Mirrored;
 impl<S: Stacked> Stacked for Mirrored<S> {
     ghost stack = { λ s. over mirror (S.Stacked.stack s.below) };
 
-    ghost reads = { Prim.search rules };
+    ghost reads = { λ s. ap (shown mirror) (S.Stacked.reads s.below) };
 
     fn look_up(&self, route: &[Turn], question: LookUp) -> Answer {
         match parted(route) {

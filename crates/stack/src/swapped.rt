@@ -1,9 +1,9 @@
 //! A swapped sheet in a stack.
 
 ghost use Rattle.std.specs.Prelude.{◌≡◌};
-ghost use Rattle.stack.specs.Stacks.{over, swap};
+ghost use Rattle.stack.specs.Stacks.{over, swap, shown};
 ghost use Rattle.stack.specs.Places.{swapped_edit};
-ghost use Rattle.std.proofs.Common.{rules};
+ghost use Rattle.std.proofs.Common.{ap};
 
 use crate::edits::{check, free, refuse};
 use crate::stacked::Stacked;
@@ -17,7 +17,7 @@ use turned::swapped::Swapped;
 impl<S: Stacked> Stacked for Swapped<S> {
     ghost stack = { λ s. over swap (S.Stacked.stack s.below) };
 
-    ghost reads = { Prim.search rules };
+    ghost reads = { λ s. ap (shown swap) (S.Stacked.reads s.below) };
 
     fn look_up(&self, route: &[Turn], question: LookUp) -> Answer {
         match parted(route) {

@@ -1,7 +1,7 @@
 //! A window in a stack.
 
-ghost use Rattle.stack.specs.Stacks.{over, window};
-ghost use Rattle.std.proofs.Common.{rules};
+ghost use Rattle.stack.specs.Stacks.{over, window, shown};
+ghost use Rattle.std.proofs.Common.{ap};
 
 use crate::stacked::Stacked;
 use crate::step::{Turn, Way, parted};
@@ -14,7 +14,7 @@ use sheet::sheet::Sheet;
 impl<S: Stacked> Stacked for Window<S> {
     ghost stack = { λ s. over (window s.left.first s.left.length s.right.first s.right.length) (S.Stacked.stack s.below) };
 
-    ghost reads = { Prim.search rules };
+    ghost reads = { λ s. ap (shown (window s.left.first s.left.length s.right.first s.right.length)) (S.Stacked.reads s.below) };
 
     fn look_up(&self, route: &[Turn], question: LookUp) -> Answer {
         match parted(route) {

@@ -7,7 +7,7 @@ ghost use Rattle.sheet.specs.Words.{check_words};
 ghost use Rattle.sheet.specs.Turns.{mirrored_state};
 ghost use Rattle.turned.specs.Last.{last_link};
 ghost use Rattle.sheet.proofs.Turns.{turn_bounded_mirrored};
-ghost use Rattle.std.proofs.Common.{rules};
+ghost use Rattle.std.proofs.Common.{ap};
 
 use sheet::lengths::Lengths;
 use sheet::refusal::Refusal;
@@ -84,7 +84,7 @@ impl<S: Editable> Mirrored<S> {
 impl<S: Editable> Editable for Mirrored<S> {
     ghost state = { λ s. mirrored_state (S.Editable.state s.below) };
 
-    ghost means = { Prim.search rules };
+    ghost means = { λ s. ap mirrored (S.Editable.means s.below) };
 
     ghost bounded = { λ s. turn_bounded_mirrored (S.Editable.state s.below) (S.Editable.bounded s.below) };
 

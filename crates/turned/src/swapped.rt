@@ -6,7 +6,7 @@ ghost use Rattle.alignment.proofs.Turns.{swapped_proper};
 ghost use Rattle.sheet.specs.Words.{check_words};
 ghost use Rattle.sheet.specs.Turns.{swapped_state};
 ghost use Rattle.sheet.proofs.Turns.{turn_bounded_swapped};
-ghost use Rattle.std.proofs.Common.{rules};
+ghost use Rattle.std.proofs.Common.{ap};
 
 use sheet::lengths::Lengths;
 use sheet::refusal::Refusal;
@@ -48,7 +48,7 @@ impl<S: Editable> Swapped<S> {
 impl<S: Editable> Editable for Swapped<S> {
     ghost state = { λ s. swapped_state (S.Editable.state s.below) };
 
-    ghost means = { Prim.search rules };
+    ghost means = { λ s. ap swapped (S.Editable.means s.below) };
 
     ghost bounded = { λ s. turn_bounded_swapped (S.Editable.state s.below) (S.Editable.bounded s.below) };
 

@@ -5,7 +5,7 @@ ghost use Rattle.sheet.specs.Edits.{Bounded, outcome, linking, unlinking, wiping
 ghost use Rattle.list.specs.Blocks.{left_block};
 ghost use Rattle.list.specs.Lists.{records_of, alignment_of, state_of};
 ghost use Rattle.list.specs.ListLaws.{list_bounded};
-ghost use Rattle.std.proofs.Common.{rules, arith};
+ghost use Rattle.std.proofs.Common.{refl};
 
 use crate::link_list::{LinkList, MOST_LINKS};
 use crate::record::LinkRecord;
@@ -17,9 +17,9 @@ use sheet::sheet::{Editable, Sheet};
 impl Editable for LinkList {
     ghost state = { state_of };
 
-    ghost means = { first_of (Prim.search rules, Prim.grind (arith, Self.row.coded.inj)) };
+    ghost means = { λ _. refl };
 
-    ghost bounded = { λ s. list_bounded s };
+    ghost bounded = { list_bounded };
 
     /// How many links the list can still take: one for each of the first 4,096 records of the block that holds no link.
     fn free(&self) -> u32 {

@@ -2,8 +2,7 @@ use Rattle.std.proofs.Common.{vec_items, sym, refl, ap, ◌∙◌}
 use Rattle.alignment.specs.Links.{links}
 use Rattle.grid.specs.Layout.{grid_alignment, grid_state}
 use Rattle.grid.specs.Blocks.{laid}
-use Rattle.sheet.proofs.Blocks.{lent_back}
-use Rattle.grid.specs.GridLaws.{grid_laid, no_links_laid}
+use Rattle.grid.specs.GridLaws.{lent_back, grid_laid, no_links_laid}
 use Rattle.grid.proofs.grid.Grid.lay.Goals as goal
 
 pub invariant_of-result : goal.invariant_of-result

@@ -4,12 +4,10 @@ use Rattle.std.proofs.lemmas.Result.{err_from_is_err_and}
 use Rattle.alignment.specs.Links.{links}
 use Rattle.sheet.specs.Edits.{accepted, outcome}
 use Rattle.sheet.proofs.EditLaws.{linking_already_linked, linking_nothing_free}
-use Rattle.sheet.proofs.Words.{words_within, linking_outside}
 use Rattle.grid.specs.Layout.{grid_alignment, grid_free}
 use Rattle.grid.specs.Blocks.{flipped}
 use Rattle.grid.specs.Grids.{bytes, state_of}
-use Rattle.sheet.proofs.Blocks.{lent_back}
-use Rattle.grid.specs.GridLaws.{kept_refused, grid_bounded, kept_already_linked, kept_short, short_from_none_free, block_linked, enough_from_free, links_rise, grid_linked}
+use Rattle.grid.specs.GridLaws.{words_within, linking_refused, lent_back, kept_refused, grid_bounded, kept_already_linked, kept_short, short_from_none_free, block_linked, enough_from_free, links_rise, grid_linked}
 use Rattle.grid.proofs.grid.edits.GridEditable.link.Goals as goal
 
 pub returns-in_err-check_words : goal.returns-in_err-check_words
@@ -20,7 +18,7 @@ returns-in_err-check_words c =
     let e = c.in_err-check_words.ensures in
     let p = err_from_is_err_and c.from_residual.result c.from_residual.ensures.1 in
     record {
-      done = ap (λ x. outcome x (state_of s)) (p.1 ∙ ap Err p.2) ∙ sym (linking_outside (state_of s) c.args.left c.args.right r e);
+      done = ap (λ x. outcome x (state_of s)) (p.1 ∙ ap Err p.2) ∙ sym (linking_refused l (bytes s) c.args.left c.args.right r e);
       bounded = grid_bounded l (bytes s);
       block = kept_refused l (bytes s) c.args.left c.args.right r e;
     }
@@ -29,7 +27,7 @@ pub returns-then-linked : goal.returns-then-linked
 returns-then-linked c =
     let s = c.args.self.now in
     let l = s.lengths in
-    let w = words_within l.left l.right c.args.left c.args.right c.in_ok-check_words.ensures in
+    let w = words_within l c.args.left c.args.right c.in_ok-check_words.ensures in
     let on = sym c.if-linked.ensures in
     record {
       done = sym (linking_already_linked (state_of s) c.args.left c.args.right w.0 w.1 on);
@@ -41,7 +39,7 @@ pub returns-then-free-eq0 : goal.returns-then-free-eq0
 returns-then-free-eq0 c =
     let s = c.args.self.now in
     let l = s.lengths in
-    let w = words_within l.left l.right c.args.left c.args.right c.in_ok-check_words.ensures in
+    let w = words_within l c.args.left c.args.right c.in_ok-check_words.ensures in
     let off = sym c.if-linked.ensures in
     let none : grid_free l.left l.right (bytes s) ≡ 0 = sym c.free.ensures.value ∙ c.if-free-eq0.true in
     record {
@@ -54,7 +52,7 @@ pub invariant_of-self : goal.invariant_of-self
 invariant_of-self c =
     let s = c.args.self.now in
     let l = s.lengths in
-    let w = words_within l.left l.right c.args.left c.args.right c.in_ok-check_words.ensures in
+    let w = words_within l c.args.left c.args.right c.in_ok-check_words.ensures in
     let off = sym c.if-linked.ensures in
     let long = enough_from_free l (bytes s) (λ z. c.if-free-eq0.false (c.free.ensures.value ∙ z)) in
     let new =
@@ -70,7 +68,7 @@ pub returns : goal.returns
 returns c =
     let s = c.args.self.now in
     let l = s.lengths in
-    let w = words_within l.left l.right c.args.left c.args.right c.in_ok-check_words.ensures in
+    let w = words_within l c.args.left c.args.right c.in_ok-check_words.ensures in
     let off = sym c.if-linked.ensures in
     let long = enough_from_free l (bytes s) (λ z. c.if-free-eq0.false (c.free.ensures.value ∙ z)) in
     let after = vec_items (with_items s.block c.flip.new.bytes) in

@@ -4,12 +4,10 @@ use Rattle.std.proofs.lemmas.Result.{err_from_is_err_and}
 use Rattle.alignment.specs.Links.{links}
 use Rattle.sheet.specs.Edits.{accepted, outcome}
 use Rattle.sheet.proofs.EditLaws.{unlinking_not_linked}
-use Rattle.sheet.proofs.Words.{words_within, unlinking_outside}
 use Rattle.grid.specs.Layout.{grid_alignment, grid_free}
 use Rattle.grid.specs.Blocks.{flipped}
 use Rattle.grid.specs.Grids.{bytes, state_of}
-use Rattle.sheet.proofs.Blocks.{lent_back}
-use Rattle.grid.specs.GridLaws.{not_linked_refused, grid_bounded, linked_within, kept_not_linked, block_unlinked, links_fall, grid_unlinked}
+use Rattle.grid.specs.GridLaws.{words_within, unlinking_refused, lent_back, not_linked_refused, grid_bounded, linked_within, kept_not_linked, block_unlinked, links_fall, grid_unlinked}
 use Rattle.grid.proofs.grid.edits.GridEditable.unlink.Goals as goal
 
 pub returns-in_err-check_words : goal.returns-in_err-check_words
@@ -20,7 +18,7 @@ returns-in_err-check_words c =
     let e = c.in_err-check_words.ensures in
     let p = err_from_is_err_and c.from_residual.result c.from_residual.ensures.1 in
     record {
-      done = ap (λ x. outcome x (state_of s)) (p.1 ∙ ap Err p.2) ∙ sym (unlinking_outside (state_of s) c.args.left c.args.right r e);
+      done = ap (λ x. outcome x (state_of s)) (p.1 ∙ ap Err p.2) ∙ sym (unlinking_refused l (bytes s) c.args.left c.args.right r e);
       bounded = grid_bounded l (bytes s);
       block = kept_not_linked l (bytes s) c.args.left c.args.right (not_linked_refused l (bytes s) c.args.left c.args.right r e);
     }
@@ -29,7 +27,7 @@ pub returns-then-not-linked : goal.returns-then-not-linked
 returns-then-not-linked c =
     let s = c.args.self.now in
     let l = s.lengths in
-    let w = words_within l.left l.right c.args.left c.args.right c.in_ok-check_words.ensures in
+    let w = words_within l c.args.left c.args.right c.in_ok-check_words.ensures in
     let off = sym c.if-not-linked.ensures in
     record {
       done = sym (unlinking_not_linked (state_of s) c.args.left c.args.right w.0 w.1 off);

@@ -3,8 +3,7 @@ use Rattle.std.specs.Vec.{with_items}
 use Rattle.alignment.specs.Links.{links}
 use Rattle.grid.specs.Layout.{grid_alignment, grid_state}
 use Rattle.grid.specs.Blocks.{laid}
-use Rattle.sheet.proofs.Blocks.{lent_back}
-use Rattle.grid.specs.GridLaws.{grid_bounded, grid_wiped, no_links_laid}
+use Rattle.grid.specs.GridLaws.{lent_back, grid_bounded, grid_wiped, no_links_laid}
 use Rattle.grid.proofs.grid.edits.GridEditable.wipe.Goals as goal
 
 pub invariant_of-self : goal.invariant_of-self
