@@ -30,13 +30,6 @@ least_skips p (suc d) k n off =
     let e : k + 1 + d ≡ k + suc d = omega arith in
     step ∙ least_skips p d (k + 1) n (λ t l h. off t (omega arith) (omega arith)) ∙ ap (λ x. least p x (n - x)) e
 
--- no word has the number 0, so the search from 0 is the search from 1
-pub next_link_from_zero : (a : Alignment) (i : ℕ) → a.linked i 0 ≡ false → next_link a i 0 ≡ next_link a i 1
-next_link_from_zero a i off = least_next (a.linked i) 0 (a.rights + 1) (omega arith) off
-
-pub next_link_none : (a : Alignment) (i j : ℕ) → ((t : ℕ) → a.linked i t ≡ false) → next_link a i j ≡ None
-next_link_none a i j off = least_none_passes (a.linked i) j (a.rights + 1 - j) (λ t _ _. off t)
-
 -- the number that stands as far from e as r stands from d
 abbrev pub shifted : ℕ → ℕ → Option ℕ → Option ℕ
 shifted d e (Some r) = Some (r - d + e)
@@ -94,11 +87,11 @@ least_none p k (suc n) e t lo hi =
 
 -- the next link, in words of its own
 module _ (a : Alignment) (i j : ℕ) where
-  pub next_found : (r : ℕ) → next_link a i j ≡ Some r → Least (a.linked i) j (a.rights + 1 - j) r
-  next_found r e = least_some (a.linked i) j (a.rights + 1 - j) r e
-
   pub next_none : next_link a i j ≡ None → (t : ℕ) → j ≤ t → t ≤ a.rights → a.linked i t ≡ false
   next_none e t lo hi = least_none (a.linked i) j (a.rights + 1 - j) e t lo (omega arith)
+
+  pub next_found : (r : ℕ) → next_link a i j ≡ Some r → Least (a.linked i) j (a.rights + 1 - j) r
+  next_found r e = least_some (a.linked i) j (a.rights + 1 - j) r e
 
   pub next_is : (r : ℕ) → j ≤ r → r ≤ a.rights → a.linked i r ≡ true → ((t : ℕ) → j ≤ t → t < r → a.linked i t ≡ false) → next_link a i j ≡ Some r
   next_is r low high on first =
@@ -112,3 +105,10 @@ module _ (a : Alignment) (i j : ℕ) where
   -- where there is no next link, no number from there on is linked
   pub none_from : Proper a → next_link a i j ≡ None → (t : ℕ) → j ≤ t → a.linked i t ≡ false
   none_from ok none t from = ⊎_elim (λ on. next_none none t from (ok.inside i t on).3) (λ off. off) (cases_Bool (a.linked i t))
+
+-- no word has the number 0, so the search from 0 is the search from 1
+pub next_link_from_zero : (a : Alignment) (i : ℕ) → a.linked i 0 ≡ false → next_link a i 0 ≡ next_link a i 1
+next_link_from_zero a i off = least_next (a.linked i) 0 (a.rights + 1) (omega arith) off
+
+pub next_link_none : (a : Alignment) (i j : ℕ) → ((t : ℕ) → a.linked i t ≡ false) → next_link a i j ≡ None
+next_link_none a i j off = least_none_passes (a.linked i) j (a.rights + 1 - j) (λ t _ _. off t)

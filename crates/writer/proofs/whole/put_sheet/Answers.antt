@@ -9,6 +9,25 @@ use Rattle.writer.proofs.SheetText.{length_sheet_text, wrote_parts}
 use Rattle.writer.proofs.Wrote.{wrote_none, wrote_same, then_all}
 use Rattle.writer.proofs.whole.put_sheet.Goals as goal
 
+pub loop-left-preserved : goal.loop-left-preserved
+loop-left-preserved g c =
+    let a = g.S.Sheet.meaning c.args.sheet.now in
+    let ok = g.met.S.Sheet.proper c.args.sheet.now in
+    let all = length_sheet_text a in
+    let first = ap (λ fs. length (line heads.Sheet fs)) c.lengths_fields.ensures in
+    let this = ap (λ fs. length (line heads.Link fs)) c.pair_fields.ensures in
+    let next = c.in-Some.ensures in
+    let i = c.loop-left.from.0 in
+    let j = c.loop-left.from.1 in
+    let left = c.in-Some.left in
+    let right = c.in-Some.right in
+    let within = lines_within a ok i j left right next in
+    let more = lines_more a ok i j left right next in
+    let here = c.loop-left.invariant.0 in
+    let long = ap length more ∙ length-append (flat_map link_line (before a i j)) (link_line (left, right)) in
+    let after = c.put_line-end-in-Some.ensures.after ∙ ap (λ fs. wrote c.loop-left.out c.loop-left.end (line heads.Link fs)) c.pair_fields.ensures in
+    (omega arith, wrote_same (sym more) (then_all c.loop-left.end (link_line (left, right)) c.loop-left.invariant.1 here (omega arith) after))
+
 pub put_line-end-requires : goal.put_line-end-requires
 put_line-end-requires g c =
     let all = length_sheet_text (g.S.Sheet.meaning c.args.sheet.now) in
@@ -43,25 +62,6 @@ loop-left-smaller g c =
     let a = g.S.Sheet.meaning c.args.sheet.now in
     let ok = g.met.S.Sheet.proper c.args.sheet.now in
     links_fewer a ok c.loop-left.from.0 c.loop-left.from.1 c.in-Some.left c.in-Some.right c.in-Some.ensures
-
-pub loop-left-preserved : goal.loop-left-preserved
-loop-left-preserved g c =
-    let a = g.S.Sheet.meaning c.args.sheet.now in
-    let ok = g.met.S.Sheet.proper c.args.sheet.now in
-    let all = length_sheet_text a in
-    let first = ap (λ fs. length (line heads.Sheet fs)) c.lengths_fields.ensures in
-    let this = ap (λ fs. length (line heads.Link fs)) c.pair_fields.ensures in
-    let next = c.in-Some.ensures in
-    let i = c.loop-left.from.0 in
-    let j = c.loop-left.from.1 in
-    let left = c.in-Some.left in
-    let right = c.in-Some.right in
-    let within = lines_within a ok i j left right next in
-    let more = lines_more a ok i j left right next in
-    let here = c.loop-left.invariant.0 in
-    let long = ap length more ∙ length-append (flat_map link_line (before a i j)) (link_line (left, right)) in
-    let after = c.put_line-end-in-Some.ensures.after ∙ ap (λ fs. wrote c.loop-left.out c.loop-left.end (line heads.Link fs)) c.pair_fields.ensures in
-    (omega arith, wrote_same (sym more) (then_all c.loop-left.end (link_line (left, right)) c.loop-left.invariant.1 here (omega arith) after))
 
 pub put_line-requires : goal.put_line-requires
 put_line-requires g c =

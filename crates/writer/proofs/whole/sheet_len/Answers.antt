@@ -8,6 +8,15 @@ use Rattle.writer.proofs.LinkLines.{lines_more, lines_within, links_fewer, lengt
 use Rattle.writer.proofs.SheetText.{length_sheet_text}
 use Rattle.writer.proofs.whole.sheet_len.Goals as goal
 
+pub loop-left-preserved : goal.loop-left-preserved
+loop-left-preserved g c =
+    let a = g.S.Sheet.meaning c.args.sheet.now in
+    let ok = g.met.S.Sheet.proper c.args.sheet.now in
+    let line_len = c.line_len-len.ensures heads.Link ∙ ap (λ fs. length (line heads.Link fs)) c.pair_fields.ensures in
+    let more = ap length (lines_more a ok c.loop-left.from.0 c.loop-left.from.1 c.in-Some.left c.in-Some.right c.in-Some.ensures) in
+    let was = c.loop-left.invariant in
+    omega (arith, length-append (flat_map link_line (before a c.loop-left.from.0 c.loop-left.from.1)) (link_line (c.in-Some.left, c.in-Some.right)))
+
 pub overflow_add-len : goal.overflow_add-len
 overflow_add-len g c =
     let first = c.line_len.ensures heads.Sheet ∙ ap (λ fs. length (line heads.Sheet fs)) c.lengths_fields.ensures in
@@ -42,15 +51,6 @@ loop-left-smaller g c =
     let a = g.S.Sheet.meaning c.args.sheet.now in
     let ok = g.met.S.Sheet.proper c.args.sheet.now in
     links_fewer a ok c.loop-left.from.0 c.loop-left.from.1 c.in-Some.left c.in-Some.right c.in-Some.ensures
-
-pub loop-left-preserved : goal.loop-left-preserved
-loop-left-preserved g c =
-    let a = g.S.Sheet.meaning c.args.sheet.now in
-    let ok = g.met.S.Sheet.proper c.args.sheet.now in
-    let line_len = c.line_len-len.ensures heads.Link ∙ ap (λ fs. length (line heads.Link fs)) c.pair_fields.ensures in
-    let more = ap length (lines_more a ok c.loop-left.from.0 c.loop-left.from.1 c.in-Some.left c.in-Some.right c.in-Some.ensures) in
-    let was = c.loop-left.invariant in
-    omega (arith, length-append (flat_map link_line (before a c.loop-left.from.0 c.loop-left.from.1)) (link_line (c.in-Some.left, c.in-Some.right)))
 
 pub returns : goal.returns
 returns g c =

@@ -5,15 +5,6 @@ use Rattle.list.proofs.ListEdits.{wiped}
 use Rattle.sheet.proofs.Blocks.{lent_back}
 use Rattle.list.proofs.link_list.edits.LinkListEditable.wipe.Goals as goal
 
-pub invariant_of-self : goal.invariant_of-self
-invariant_of-self c =
-    let s = c.args.self.now in
-    let new =
-    lent_back s.block c.deref_mut.result.now c.free_first.new.records (λ x. replicate s.count free_record ++ drop s.count x)
-    c.deref_mut.ensures.value c.deref_mut.ensures.len c.free_first.auto.records c.free_first.ensures in
-    let e = wiped s (vec_items (with_items s.block c.free_first.new.records)) new in
-    record { fits = e.fits; ordered = e.ordered }
-
 pub returns : goal.returns
 returns c =
     let s = c.args.self.now in
@@ -22,3 +13,12 @@ returns c =
     c.deref_mut.ensures.value c.deref_mut.ensures.len c.free_first.auto.records c.free_first.ensures in
     let e = wiped s (vec_items (with_items s.block c.free_first.new.records)) new in
     record { done = e.state; bounded = e.bounded; block = e.left }
+
+pub invariant_of-self : goal.invariant_of-self
+invariant_of-self c =
+    let s = c.args.self.now in
+    let new =
+    lent_back s.block c.deref_mut.result.now c.free_first.new.records (λ x. replicate s.count free_record ++ drop s.count x)
+    c.deref_mut.ensures.value c.deref_mut.ensures.len c.free_first.auto.records c.free_first.ensures in
+    let e = wiped s (vec_items (with_items s.block c.free_first.new.records)) new in
+    record { fits = e.fits; ordered = e.ordered }
