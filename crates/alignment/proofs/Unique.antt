@@ -83,7 +83,7 @@ ascending_unique (p ∷ ps) (q ∷ qs) a b same =
     (cases_before p q)
 
 -- an ascending list of just the links is the links in order
-pub in-order-unique : (a : Alignment) (ps : List (ℕ × ℕ)) → Ascending ps → ((i j : ℕ) → among (i, j) ps ≡ (within a.lefts i && (within a.rights j && a.linked i j))) → ps ≡ in_order a
-in-order-unique a ps asc has =
+pub in_order_unique : (a : Alignment) (ps : List (ℕ × ℕ)) → Ascending ps → ((i j : ℕ) → among (i, j) ps ≡ (within a.lefts i && (within a.rights j && a.linked i j))) → ps ≡ in_order a
+in_order_unique a ps asc has =
     let all = links_in_order a in
     ascending_unique ps (in_order a) asc all.ascends (λ i j. has i j ∙ sym (all.has i j))

@@ -7,7 +7,7 @@ use Rattle.alignment.specs.Alignment.{within}
 use Rattle.alignment.specs.Links.{links, in_order}
 use Rattle.alignment.specs.Laws.{among, Ascending}
 use Rattle.alignment.proofs.Orders.{links_in_order}
-use Rattle.alignment.proofs.Unique.{in-order-unique}
+use Rattle.alignment.proofs.Unique.{in_order_unique}
 use Rattle.sheet.specs.Edits.{Bounded}
 use Rattle.list.specs.declared.record.LinkRecord.{LinkRecord}
 use Rattle.list.specs.declared.link_list.LinkList.{LinkList}
@@ -27,7 +27,7 @@ Inside n m ps = (i j : ℕ) → among (i, j) ps ≡ true → (within n i ≡ tru
 module _ (n m : ℕ) (rs : List LinkRecord) where
   pub ordered_from : Ascending (pairs rs) → Inside n m (pairs rs) → pairs rs ≡ in_order (list_alignment n m rs)
   ordered_from asc inside =
-      in-order-unique (list_alignment n m rs) (pairs rs) asc
+      in_order_unique (list_alignment n m rs) (pairs rs) asc
       (λ i j.
       ⊎_elim
       (λ on. on ∙ sym (and_from (within n i) _ (inside i j on).0 (and_from (within m j) _ (inside i j on).1 on)))
