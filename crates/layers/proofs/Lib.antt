@@ -1,1 +1,2 @@
+pub mod IntersectionLaws
 pub mod WindowLaws

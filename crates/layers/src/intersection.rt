@@ -32,6 +32,7 @@ impl<P: Sheet, Q: Sheet> Sheet for Intersection<P, Q> {
 
     /// The least right word at or after `right` that is linked to `left` in both sheets. Each sheet in turn is asked from the word of the
     /// other on, so what only one of them links is passed over.
+    #[tactic(auto, using(crate::proofs::IntersectionLaws::intersection_next))]
     fn next_link(&self, left: u16, right: u16) -> Option<u16> {
         let mut from = right;
         loop {

@@ -32,13 +32,8 @@ impl<P: Sheet, Q: Sheet> Sheet for Union<P, Q> {
 
     /// The lesser of the next links of the two sheets.
     fn next_link(&self, left: u16, right: u16) -> Option<u16> {
-        match (
-            self.first.next_link(left, right),
-            self.second.next_link(left, right),
-        ) {
-            (Some(first), Some(second)) => Some(first.min(second)),
-            (Some(first), None) => Some(first),
-            (None, second) => second,
-        }
+        let first = self.first.next_link(left, right);
+        let second = self.second.next_link(left, right);
+        first.into_iter().chain(second).min()
     }
 }

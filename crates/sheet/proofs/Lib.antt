@@ -1,5 +1,5 @@
 pub mod Accepted
 pub mod EditLaws
+pub mod Found
 pub mod Words
 pub mod Turns
-pub mod Blocks

@@ -1,4 +1,4 @@
--- What making a pair of lengths answers.
+-- The test of a length, and what making a pair of lengths answers.
 use Rattle.std.specs.Prelude.{ℕ, Bool, cond, ◌&&◌, Ok, Err, Result}
 use Rattle.alignment.specs.Alignment.{within, most_words}
 use Rattle.sheet.specs.declared.refusal.Refusal.{Refusal}
@@ -8,6 +8,10 @@ use Rattle.sheet.specs.declared.lengths.Lengths.{Lengths}
 -- a length is one of 1 .. 512
 abbrev pub length_fits : ℕ → Bool
 length_fits n = within most_words n
+
+-- a number has to be a length
+abbrev pub check_length : ℕ → Result (Unit {0}) Refusal
+check_length n = cond (length_fits n) (Ok tt) (Err LengthOutOfRange)
 
 -- two lengths in range, or a refusal
 abbrev pub check_lengths : ℕ → ℕ → Result (ℕ × ℕ) Refusal

@@ -14,3 +14,5 @@ pub struct Lengths {
 }
 
 mod checks;
+
+pub use checks::check_length;

@@ -7,21 +7,21 @@ ghost use Rattle.sheet.specs.Refusals.{refusal_number};
 #[derive(Clone, Copy, Debug, PartialEq, Eq)]
 pub enum Refusal {
     /// A left word outside the sheet.
-    LeftOutside,
+    LeftOutside = 1,
     /// A right word outside the sheet.
-    RightOutside,
+    RightOutside = 2,
     /// The two words are linked already.
-    AlreadyLinked,
+    AlreadyLinked = 3,
     /// The two words are not linked.
-    NotLinked,
+    NotLinked = 4,
     /// The sheet can take no more links.
-    NothingFree,
+    NothingFree = 5,
     /// A sheet without links, where one with links is needed.
-    NoLinks,
+    NoLinks = 6,
     /// A length outside 1..=512.
-    LengthOutOfRange,
+    LengthOutOfRange = 7,
     /// A block or buffer that is too short, or a place past its end.
-    BlockTooShort,
+    BlockTooShort = 12,
 }
 
 impl Refusal {
@@ -29,15 +29,6 @@ impl Refusal {
     pub fn number(self) -> u8
         ensures { result ≡ refusal_number self }
     {
-        match self {
-            Refusal::LeftOutside => 1,
-            Refusal::RightOutside => 2,
-            Refusal::AlreadyLinked => 3,
-            Refusal::NotLinked => 4,
-            Refusal::NothingFree => 5,
-            Refusal::NoLinks => 6,
-            Refusal::LengthOutOfRange => 7,
-            Refusal::BlockTooShort => 12,
-        }
+        self as u8
     }
 }

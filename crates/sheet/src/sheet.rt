@@ -25,18 +25,13 @@ pub trait Sheet {
     fn next_link(&self, left: u16, right: u16) -> Option<u16>
         ensures { result ≡ next_link (meaning self.now) left right }
     {
-        for word in right..self.lengths().right() + 1 {
-            if self.linked(left, word) {
-                return Some(word);
-            }
-        }
-        None
+        (right..=self.lengths().right()).find(|word| self.linked(left, *word))
     }
 
     ghost proper: { (s : Self) → Proper (meaning s) };
 }
 
-/// A sheet that can also be changed. A refusal changes nothing.
+/// A sheet that can also be changed. A refusal changes nothing. Each call promises itself that free and links together stay bounded.
 pub trait Editable: Sheet {
     ghost state: { Self → State };
 

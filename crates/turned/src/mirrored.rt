@@ -3,7 +3,6 @@
 ghost use Rattle.std.specs.Prelude.{◌≡◌};
 ghost use Rattle.alignment.specs.Layers.{opposite, mirrored};
 ghost use Rattle.alignment.proofs.Turns.{mirrored_proper};
-ghost use Rattle.sheet.specs.Words.{check_words};
 ghost use Rattle.sheet.specs.Turns.{mirrored_state};
 ghost use Rattle.turned.specs.Last.{last_link};
 ghost use Rattle.sheet.proofs.Turns.{turn_bounded_mirrored};
@@ -24,13 +23,14 @@ impl<S: Sheet> Mirrored<S> {
     fn opposite(&self, right: u16) -> u16
         ensures { result ≡ opposite (S.Sheet.meaning self.now.below).rights right }
     {
-        (self.below.lengths().right() + 1).saturating_sub(right)
+        self.lengths().opposite(right)
     }
 
     /// The greatest right word of the sheet below at or before `last` that is linked to `left`. Each look-up halves the words where it can be.
     fn last_link(&self, left: u16, last: u16) -> Option<u16>
         ensures { result ≡ last_link (S.Sheet.meaning self.now.below) left last }
     {
+        // By hand: the library searches slices, and this halves numbers by asking a sheet.
         let mut found = None;
         let mut low = 1;
         let mut high = last;
@@ -65,22 +65,17 @@ impl<S: Sheet> Sheet for Mirrored<S> {
     }
 
     /// The least right word at or after `right` that is linked to `left`: the opposite of the greatest at or before the opposite of `right`.
+    #[tactic(auto, using(crate::proofs::Last::next_link_mirrored))]
     fn next_link(&self, left: u16, right: u16) -> Option<u16> {
-        let word = self.last_link(left, self.opposite(right))?;
-        Some(self.opposite(word))
+        self.last_link(left, self.opposite(right))
+            .map(|word| self.opposite(word))
     }
 }
 
-impl<S: Editable> Mirrored<S> {
-    /// Refuses a left word that is not in this sheet, then a right word that is not.
-    fn check_words(&self, left: u16, right: u16) -> Result<(), Refusal>
-        ensures { result ≡ check_words (S.Editable.state self.now.below).sheet.lefts (S.Editable.state self.now.below).sheet.rights left right }
-    {
-        self.lengths().check_words(left, right)
-    }
-}
+// A line or two for a call: a common trait of turned sheets would have more lines than it saves.
 
 /// A mirrored sheet as an editable sheet. A refusal changes nothing.
+#[tactic(auto, using(sheet::proofs::Turns::turn_bounded_mirrored, sheet::proofs::Turns::turn_wiping_mirrored))]
 impl<S: Editable> Editable for Mirrored<S> {
     ghost state = { λ s. mirrored_state (S.Editable.state s.below) };
 
@@ -96,17 +91,17 @@ impl<S: Editable> Editable for Mirrored<S> {
     /// Links two words in the sheet below. It refuses a left word outside this sheet, then a right word outside it, then what the sheet
     /// below refuses.
     fn link(&mut self, left: u16, right: u16) -> Result<(), Refusal> {
-        self.check_words(left, right)?;
-        let word = self.opposite(right);
-        self.below.link(left, word)
+        let lengths = self.lengths();
+        lengths.check_words(left, right)?;
+        self.below.link(left, lengths.opposite(right))
     }
 
     /// Removes the link between two words from the sheet below. It refuses a left word outside this sheet, then a right word outside it,
     /// then what the sheet below refuses.
     fn unlink(&mut self, left: u16, right: u16) -> Result<(), Refusal> {
-        self.check_words(left, right)?;
-        let word = self.opposite(right);
-        self.below.unlink(left, word)
+        let lengths = self.lengths();
+        lengths.check_words(left, right)?;
+        self.below.unlink(left, lengths.opposite(right))
     }
 
     /// Removes all links of the sheet below.

@@ -1,9 +1,7 @@
 //! A sheet with its sides exchanged.
 
-ghost use Rattle.std.specs.Prelude.{◌≡◌};
 ghost use Rattle.alignment.specs.Layers.{swapped};
 ghost use Rattle.alignment.proofs.Turns.{swapped_proper};
-ghost use Rattle.sheet.specs.Words.{check_words};
 ghost use Rattle.sheet.specs.Turns.{swapped_state};
 ghost use Rattle.sheet.proofs.Turns.{turn_bounded_swapped};
 ghost use Rattle.std.proofs.Common.{ap};
@@ -35,16 +33,10 @@ impl<S: Sheet> Sheet for Swapped<S> {
     }
 }
 
-impl<S: Editable> Swapped<S> {
-    /// Refuses a left word that is not in this sheet, then a right word that is not.
-    fn check_words(&self, left: u16, right: u16) -> Result<(), Refusal>
-        ensures { result ≡ check_words (S.Editable.state self.now.below).sheet.rights (S.Editable.state self.now.below).sheet.lefts left right }
-    {
-        self.lengths().check_words(left, right)
-    }
-}
+// A line or two for a call: a common trait of turned sheets would have more lines than it saves.
 
 /// A swapped sheet as an editable sheet. A refusal changes nothing.
+#[tactic(auto, using(sheet::proofs::Turns::turn_bounded_swapped, sheet::proofs::Turns::turn_wiping_swapped))]
 impl<S: Editable> Editable for Swapped<S> {
     ghost state = { λ s. swapped_state (S.Editable.state s.below) };
 
@@ -60,14 +52,14 @@ impl<S: Editable> Editable for Swapped<S> {
     /// Links two words in the sheet below. It refuses a left word outside this sheet, then a right word outside it, then what the sheet
     /// below refuses.
     fn link(&mut self, left: u16, right: u16) -> Result<(), Refusal> {
-        self.check_words(left, right)?;
+        self.lengths().check_words(left, right)?;
         self.below.link(right, left)
     }
 
     /// Removes the link between two words from the sheet below. It refuses a left word outside this sheet, then a right word outside it,
     /// then what the sheet below refuses.
     fn unlink(&mut self, left: u16, right: u16) -> Result<(), Refusal> {
-        self.check_words(left, right)?;
+        self.lengths().check_words(left, right)?;
         self.below.unlink(right, left)
     }
 

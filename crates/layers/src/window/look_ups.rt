@@ -20,13 +20,14 @@ impl<S: Sheet> Sheet for Window<S> {
 
     /// Whether the two words of the window are linked in the sheet below; "no" outside the window.
     fn linked(&self, left: u16, right: u16) -> bool {
-        match (self.left.word_below(left), self.right.word_below(right)) {
-            (Some(left), Some(right)) => self.below.linked(left, right),
-            _ => false,
-        }
+        self.left
+            .word_below(left)
+            .zip(self.right.word_below(right))
+            .is_some_and(|(left, right)| self.below.linked(left, right))
     }
 
     /// The least right word of the window at or after `right` that is linked to `left`, by the next link below.
+    #[tactic(auto, using(crate::proofs::WindowLaws::window_next))]
     fn next_link(&self, left: u16, right: u16) -> Option<u16> {
         let left_below = self.left.word_below(left)?;
         let right_below = self.right.word_below(right.max(1))?;

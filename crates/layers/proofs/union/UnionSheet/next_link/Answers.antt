@@ -1,22 +1,21 @@
-use Rattle.std.proofs.Common.{Some, None, sym, ap, ◌∙◌}
-use Rattle.alignment.proofs.Layers.{united_next}
+use Rattle.std.proofs.Common.{◌≡◌, ℕ, min, ◌++◌, Option, Some, None, refl, sym, ◌∙◌}
+use Rattle.std.specs.List.{reduce}
+use Rattle.std.specs.Option.{option_to_list}
+use Rattle.std.proofs.lemmas.Iterator.Adapters.{YieldsList-from_once, option_map_id}
+use Rattle.std.proofs.lemmas.Iterator.Consumers.{YieldsList-from_chain, min_from_yields_List}
+use Rattle.alignment.proofs.Layers.{lesser, united_next}
 use Rattle.layers.proofs.union.UnionSheet.next_link.Goals as goal
 
-pub returns-in-Some-Some : goal.returns-in-Some-Some
-returns-in-Some-Some g c =
-    let u = c.args.self.now in
-    ap Some c.min.ensures
-    ∙ united_next (g.P.Sheet.meaning u.first) (g.Q.Sheet.meaning u.second) c.args.left c.args.right (g.met.P.Sheet.proper u.first) (g.met.Q.Sheet.proper u.second)
-    (Some c.in-Some-Some.first) (Some c.in-Some-Some.second) c.in-Some-Some.ensures c.in-Some-Some.ensures'
+least_of_two : (o p : Option ℕ) → reduce min (option_to_list o ++ option_to_list p) ≡ lesser o p
+least_of_two None None = refl
+least_of_two None (Some y) = refl
+least_of_two (Some x) None = refl
+least_of_two (Some x) (Some y) = refl
 
-pub returns-in-Some-None : goal.returns-in-Some-None
-returns-in-Some-None g c =
+pub returns : goal.returns
+returns g c =
     let u = c.args.self.now in
-    united_next (g.P.Sheet.meaning u.first) (g.Q.Sheet.meaning u.second) c.args.left c.args.right (g.met.P.Sheet.proper u.first) (g.met.Q.Sheet.proper u.second)
-    (Some c.in-Some-None.first) None c.in-Some-None.ensures c.in-Some-None.ensures'
-
-pub returns-in-None-default : goal.returns-in-None-default
-returns-in-None-default g c =
-    let u = c.args.self.now in
-    united_next (g.P.Sheet.meaning u.first) (g.Q.Sheet.meaning u.second) c.args.left c.args.right (g.met.P.Sheet.proper u.first) (g.met.Q.Sheet.proper u.second)
-    None c.next_link-2.result (sym c.in-None-default.is-0 ∙ c.next_link.ensures) c.next_link-2.ensures
+    let both = YieldsList-from_chain (YieldsList-from_once c.next_link-first.result (cc)) (YieldsList-from_once c.next_link-second.result (cc)) (cc) (cc) in
+    sym (option_map_id c.min.result) ∙ min_from_yields_List _ _ c.min.ensures.ran both
+    ∙ least_of_two _ _
+    ∙ united_next _ _ c.args.left c.args.right (g.met.P.Sheet.proper u.first) (g.met.Q.Sheet.proper u.second) _ _ c.next_link-first.ensures c.next_link-second.ensures

@@ -1,29 +1,10 @@
-use Rattle.std.proofs.Common.{Err, sym, ap, ◌∙◌}
-use Rattle.std.proofs.lemmas.Result.{err_from_is_err_and}
-use Rattle.alignment.specs.Alignment.{Alignment}
-use Rattle.alignment.specs.Layers.{opposite}
-use Rattle.sheet.specs.Edits.{outcome, linking}
-use Rattle.sheet.specs.Turns.{mirrored_state, mirrored_outcome}
-use Rattle.sheet.proofs.Words.{words_within, linking_outside}
-use Rattle.sheet.proofs.Turns.{turn_bounded_mirrored, turn_linking_mirrored}
+use Rattle.std.proofs.Common.{arith}
+use Rattle.std.proofs.lemmas.Bool.Decides.{nat_tests}
+use Rattle.sheet.proofs.Turns.{turn_linking_mirrored}
 use Rattle.turned.proofs.mirrored.MirroredEditable.link.Goals as goal
 
-pub returns-in_err-check_words : goal.returns-in_err-check_words
-returns-in_err-check_words g c =
+pub returns-clause-done : goal.returns-clause-done
+returns-clause-done g c =
     let below = c.args.self.now.below in
-    let s = mirrored_state (g.S.Editable.state below) in
-    let p = err_from_is_err_and c.from_residual.result c.from_residual.ensures.1 in
-    record {
-      done = ap (λ x. outcome x s) (p.1 ∙ ap Err p.2) ∙ sym (linking_outside s c.args.left c.args.right c.in_err-check_words.field-0.0 c.in_err-check_words.ensures);
-      bounded = turn_bounded_mirrored (g.S.Editable.state below) (g.met.S.Editable.bounded below);
-    }
-
-pub returns : goal.returns
-returns g c =
-    let s = g.S.Editable.state c.args.self.now.below in
-    let w = words_within (mirrored_state s).sheet.lefts (mirrored_state s).sheet.rights c.args.left c.args.right c.in_ok-check_words.ensures in
-    let at = c.opposite-word.ensures ∙ sym (ap (λ (a : Alignment). opposite a.rights c.args.right) (g.met.S.Editable.means c.args.self.now.below)) in
-    record {
-      done = ap mirrored_outcome (c.link.ensures.done ∙ ap (linking s c.args.left) at) ∙ sym (turn_linking_mirrored s c.args.left c.args.right w.0 w.1);
-      bounded = turn_bounded_mirrored (g.S.Editable.state c.link.new.self) c.link.ensures.bounded;
-    }
+    let turned = turn_linking_mirrored (g.S.Editable.state below) c.args.left c.args.right in
+    grind (arith, nat_tests, g.met.S.Editable.means below)

@@ -1,4 +1,0 @@
-use Rattle.turned.proofs.mirrored.Mirrored.check_words.Goals as goal
-
-pub returns : goal.returns
-returns g c = let means = g.met.S.Editable.means c.args.self.now.below in cc

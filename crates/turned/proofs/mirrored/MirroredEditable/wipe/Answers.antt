@@ -1,6 +1,0 @@
-use Rattle.std.proofs.Common.{rules}
-use Rattle.sheet.proofs.Turns.{turn_bounded_mirrored, turn_wiping_mirrored}
-use Rattle.turned.proofs.mirrored.MirroredEditable.wipe.Goals as goal
-
-pub returns : goal.returns
-returns g c = search (rules, turn_bounded_mirrored, turn_wiping_mirrored)
