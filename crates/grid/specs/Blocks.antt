@@ -1,7 +1,7 @@
 -- The test of a block, and the whole block that each call leaves.
 use Rattle.std.specs.Prelude.{ℕ, ◌*◌, ◌/◌, ◌%◌, ◌^◌, Bool, cond, not, ◌&&◌, List, ◌++◌, drop, replicate, Ok, Err, Result, bit_xor, slice_index, slice_set}
-use Rattle.alignment.specs.Alignment.{within, unlinked}
-use Rattle.sheet.specs.Edits.{State}
+use Rattle.alignment.specs.Alignment.{within}
+use Rattle.sheet.specs.Edits.{State, started}
 use Rattle.sheet.specs.declared.refusal.Refusal.{Refusal}
 use Rattle.sheet.specs.declared.refusal.Refusal.TheVariants.{BlockTooShort}
 use Rattle.grid.specs.Layout.{block_bytes, enough, place, grid_alignment}
@@ -20,7 +20,7 @@ laid block = cond (enough block) (cleared block_bytes block) block
 
 -- a grid of n left words and m right words on a block that was laid
 abbrev pub laid_state : ℕ → ℕ → List ℕ → State
-laid_state n m block = record { sheet = unlinked n m; free = cond (enough block) (n * m) 0 }
+laid_state n m block = started n m (cond (enough block) (n * m) 0)
 
 -- bit b is turned over, and all else is as it was
 abbrev pub flipped : List ℕ → ℕ → List ℕ

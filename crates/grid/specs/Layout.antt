@@ -1,5 +1,5 @@
 -- How a grid keeps its links in a block of bytes.
-use Rattle.std.specs.Prelude.{ℕ, ◌+◌, ◌-◌, ◌*◌, ◌/◌, ◌%◌, ◌^◌, Bool, cond, ◌&&◌, List, length, ◌==◌, nat_le, slice_index}
+use Rattle.std.specs.Prelude.{ℕ, ◌+◌, ◌-◌, ◌*◌, ◌/◌, ◌%◌, ◌^◌, Bool, cond, not, ◌&&◌, List, length, ◌==◌, nat_le, slice_index}
 use Rattle.alignment.specs.Alignment.{Alignment, within}
 use Rattle.alignment.specs.Links.{links}
 use Rattle.sheet.specs.Edits.{State}
@@ -15,6 +15,10 @@ enough block = nat_le block_bytes (length block)
 -- bit b is in byte b / 8, the low bit of a byte first
 abbrev pub bit_at : List ℕ → ℕ → Bool
 bit_at block b = slice_index block (b / 8) / 2 ^ (b % 8) % 2 == 1
+
+-- byte k has a set bit
+abbrev pub filled : List ℕ → ℕ → Bool
+filled block k = not (slice_index block k == 0)
 
 -- the bit of link (i, j), where there are m right words
 abbrev pub place : ℕ → ℕ → ℕ → ℕ

@@ -4,7 +4,6 @@ ghost use Rattle.std.specs.Prelude.{◌≡◌};
 ghost use Rattle.grid.specs.Blocks.{test_block, laid, laid_state};
 ghost use Rattle.grid.specs.Grids.{bytes, state_of};
 
-use crate::bits;
 use crate::grid::{BLOCK_BYTES, Grid};
 use sheet::lengths::Lengths;
 use sheet::refusal::Refusal;
@@ -38,20 +37,17 @@ impl Grid {
     pub fn into_block(self) -> Vec<u8>
         ensures { result ≡ self.block }
     {
-        let Grid {
-            lengths: _,
-            block,
-            count: _,
-        } = self;
-        block
+        self.block
     }
 }
 
 /// Sets the bytes that a grid uses to zero. A shorter block is kept as it is.
+#[tactic(auto, using(crate::proofs::Laid::laid_from_fill))]
 pub(crate) fn clear_used(block: &mut [u8])
     ensures { block.new ≡ laid block.old }
 {
     if block.len() >= BLOCK_BYTES {
-        bits::clear(block, BLOCK_BYTES);
+        let (used, _) = block.split_at_mut(BLOCK_BYTES);
+        used.fill(0);
     }
 }

@@ -22,21 +22,19 @@ impl Sheet for Grid {
     /// Whether the two words are linked; "no" outside the sheet, and in a block that is too short.
     fn linked(&self, left: u16, right: u16) -> bool {
         self.keeps_links()
-            && self.has_left(left)
-            && self.has_right(right)
+            && self.lengths.has_left(left)
+            && self.lengths.has_right(right)
             && bits::is_set(&self.block, self.place(left, right))
     }
 
     /// The least right word at or after `right` that is linked to `left`, if there is one.
     fn next_link(&self, left: u16, right: u16) -> Option<u16> {
-        if !self.keeps_links() || !self.has_left(left) {
+        if !self.keeps_links() || !self.lengths.has_left(left) {
             return None;
         }
         let row = self.place(left, 1);
         let from = row + right.max(1) as usize - 1;
-        match bits::first_set(&self.block, from, row + self.lengths.right() as usize) {
-            Some(b) => Some((b - row + 1) as u16),
-            None => None,
-        }
+        let b = bits::first_set(&self.block, from, row + self.lengths.right() as usize)?;
+        Some((b - row + 1) as u16)
     }
 }

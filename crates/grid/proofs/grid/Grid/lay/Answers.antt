@@ -1,24 +1,10 @@
-use Rattle.std.proofs.Common.{vec_items, sym, refl, ap, ◌∙◌}
-use Rattle.alignment.specs.Links.{links}
-use Rattle.grid.specs.Layout.{grid_alignment, grid_state}
-use Rattle.grid.specs.Blocks.{laid}
-use Rattle.grid.specs.GridLaws.{lent_back, grid_laid, no_links_laid}
+use Rattle.std.proofs.Common.{vec_items, arith}
+use Rattle.std.proofs.lemmas.Grind.{common_steps}
+use Rattle.grid.proofs.Laid.{no_links_laid, grid_laid}
 use Rattle.grid.proofs.grid.Grid.lay.Goals as goal
 
 pub invariant_of-result : goal.invariant_of-result
-invariant_of-result c =
-    let l = c.args.lengths in
-    let block = c.args.block in
-    let new = lent_back block c.deref_mut.result.now c.clear_used.new.block laid c.deref_mut.ensures.value c.deref_mut.ensures.len c.clear_used.auto.block c.clear_used.ensures in
-    record { counted = sym (ap (λ x. links (grid_alignment l.left l.right x)) new ∙ no_links_laid l (vec_items block)) }
+invariant_of-result c = record { counted = no_links_laid c.args.lengths (vec_items c.args.block) _ (grind (arith, common_steps)) }
 
-pub returns : goal.returns
-returns c =
-    let l = c.args.lengths in
-    let block = c.args.block in
-    let new = lent_back block c.deref_mut.result.now c.clear_used.new.block laid c.deref_mut.ensures.value c.deref_mut.ensures.len c.clear_used.auto.block c.clear_used.ensures in
-    record {
-      lengths = refl;
-      block = new;
-      state = ap (grid_state l.left l.right) new ∙ grid_laid l (vec_items block);
-    }
+pub returns-clause-state : goal.returns-clause-state
+returns-clause-state c = grid_laid c.args.lengths (vec_items c.args.block) _ (grind (arith, common_steps))
