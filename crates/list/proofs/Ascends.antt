@@ -1,94 +1,94 @@
--- A pair taken into an ascending list at its place, or out of it, leaves it ascending.
-use Rattle.std.proofs.Common.{◌≡◌, ℕ, zero, suc, ◌<◌, Bool, true, false, not, ◌&&◌, ◌||◌, eqb, List, [], ◌∷◌, length, take, drop, sym, refl, ap, ◌∙◌, subst, ⊎_elim, arith}
-use Rattle.std.specs.List.{insert, remove}
-use Rattle.std.proofs.lemmas.List.{take-append-drop}
-use Rattle.std.proofs.lemmas.Bool.{cases_Bool, both_ways, or_parts, or_cases, false≢true}
+-- Ascending records: what stands where, and what taking one in or out leaves.
+use Rattle.std.proofs.Common.{◌≡◌, ℕ, zero, suc, ◌+◌, ◌<◌, true, false, not, ◌&&◌, eqb, List, [], ◌∷◌, length, get_or, Decides, sym, refl, ap, ◌∙◌, ap₂, ⊎_elim, arith}
+use Rattle.std.specs.List.{Contains, insert, remove}
+use Rattle.std.specs.List.Sorted.{IsPermutation}
+use Rattle.std.proofs.lemmas.Bool.{cases_Bool, cases_lt}
+use Rattle.std.proofs.lemmas.Bool.Decides.{nat_tests, Decides-by_or, same_from_decides, Decides-like}
+use Rattle.std.proofs.lemmas.List.Edits.{length-remove, get_or-remove_below, get_or-remove_above}
+use Rattle.std.proofs.lemmas.List.Elements.{Decides-contains}
+use Rattle.std.proofs.lemmas.List.Sorted.{IsPermutation-insert, IsPermutation-remove, IsPermutation-sym, Contains-permutation}
 use Rattle.alignment.specs.Laws.{among, Before, BeforeAll, Ascending}
-use Rattle.alignment.proofs.Orders.{among_append}
-use Rattle.alignment.proofs.Unique.{before_all_trans, among_first, same_tells, not_same, before_apart, before_not_among, before_first_not_among}
-use Rattle.list.specs.Layout.{comes_before, place}
-use Rattle.list.proofs.Places.{before_true, before_false, place_on, place_here}
+use Rattle.alignment.proofs.Unique.{before_all_trans, before_apart, same_tells}
+use Rattle.list.specs.declared.record.LinkRecord.{LinkRecord}
+use Rattle.list.specs.Layout.{pairs}
 
--- is x the pair p
-abbrev pub is : ℕ × ℕ → ℕ × ℕ → Bool
-is p x = eqb x.0 p.0 && eqb x.1 p.1
+abbrev pub pair : LinkRecord → ℕ × ℕ
+pair r = (r.left, r.right)
 
-before_inserted : (q p : ℕ × ℕ) (k : ℕ) (ps : List (ℕ × ℕ)) → Before q p → BeforeAll q ps → BeforeAll q (insert ps k p)
-before_inserted q p zero ps h all = (h, all)
-before_inserted q p (suc k) [] h all = (h, tt)
-before_inserted q p (suc k) (r ∷ ps) h all = (all.0, before_inserted q p k ps h all.1)
+pub same_record : (r x : LinkRecord) → r.left ≡ x.left → r.right ≡ x.right → r ≡ x
+same_record r x e f = ap₂ (λ i j. record { left = i; right = j }) e f
 
-pub inserted_ascends : (ps : List (ℕ × ℕ)) (p : ℕ × ℕ) → Ascending ps → among p ps ≡ false → Ascending (insert ps (place ps p) p)
-inserted_ascends [] p asc off = (tt, tt)
-inserted_ascends (q ∷ qs) p asc off =
-    ⊎_elim
-    (λ t.
-    subst (λ k. Ascending (insert (q ∷ qs) k p)) (sym (place_on q p qs t))
-    (before_inserted q p (place qs p) qs (before_true q p t) asc.0, inserted_ascends qs p asc.1 (or_parts (is q p) (among p qs) off).1))
-    (λ f.
-    let h : Before p q = ⊎_elim (λ e. absurd (both_ways _ off (ap (λ x. among p (x ∷ qs)) (sym e) ∙ among_first p qs))) (λ b. b) (before_false q p f) in
-    subst (λ k. Ascending (insert (q ∷ qs) k p)) (sym (place_here q p qs f)) ((h, before_all_trans p q qs h asc.0), asc))
-    (cases_Bool (comes_before q p))
+-- an earlier record comes before a later one
+before_at : (r : LinkRecord) (rs : List LinkRecord) (k : ℕ) (d : LinkRecord) → BeforeAll (pair r) (pairs rs) → k < length rs → Before (pair r) (pair (get_or rs k d))
+before_at r [] k d all h = absurd (omega arith)
+before_at r (s ∷ rs) zero d all h = all.0
+before_at r (s ∷ rs) (suc k) d all h = before_at r rs k d all.1 (omega arith)
 
-or_moves : (x y z : Bool) → (x || (y || z)) ≡ (y || (x || z))
-or_moves true true z = refl
-or_moves true false z = refl
-or_moves false y z = refl
+pub ascending_at : (rs : List LinkRecord) (k m : ℕ) (d : LinkRecord) → Ascending (pairs rs) → k < m → m < length rs → Before (pair (get_or rs k d)) (pair (get_or rs m d))
+ascending_at [] k m d asc less h = absurd (omega arith)
+ascending_at (r ∷ rs) k zero d asc less h = absurd (omega arith)
+ascending_at (r ∷ rs) zero (suc m) d asc less h = before_at r rs m d asc.0 (omega arith)
+ascending_at (r ∷ rs) (suc k) (suc m) d asc less h = ascending_at rs k m d asc.1 (omega arith) (omega arith)
 
--- what is in the list then is p, or was in it
-pub among_inserted : (ps : List (ℕ × ℕ)) (k : ℕ) (p x : ℕ × ℕ) → among x (insert ps k p) ≡ (is p x || among x ps)
-among_inserted ps k p x =
-    among_append x (take k ps) (p ∷ drop k ps) ∙ or_moves (among x (take k ps)) (is p x) (among x (drop k ps))
-    ∙ ap (λ t. is p x || t) (sym (among_append x (take k ps) (drop k ps)) ∙ ap (among x) (take-append-drop k ps))
+-- a record between those before it and those after it may be taken in
+before_inserted : (r x : LinkRecord) (k : ℕ) (rs : List LinkRecord) → Before (pair r) (pair x) → BeforeAll (pair r) (pairs rs) → BeforeAll (pair r) (pairs (insert rs k x))
+before_inserted r x zero rs h all = (h, all)
+before_inserted r x (suc k) [] h all = (h, tt)
+before_inserted r x (suc k) (s ∷ rs) h all = (all.0, before_inserted r x k rs h all.1)
 
-before_removed : (q : ℕ × ℕ) (k : ℕ) (ps : List (ℕ × ℕ)) → BeforeAll q ps → BeforeAll q (remove ps k)
-before_removed q zero [] all = tt
-before_removed q (suc k) [] all = tt
-before_removed q zero (r ∷ ps) all = all.1
-before_removed q (suc k) (r ∷ ps) all = (all.0, before_removed q k ps all.1)
+pub inserted_ascends : (rs : List LinkRecord) (k : ℕ) (x : LinkRecord) → Ascending (pairs rs) → ((m : ℕ) → m < k → Before (pair (get_or rs m x)) (pair x)) → (k < length rs → Before (pair x) (pair (get_or rs k x))) → Ascending (pairs (insert rs k x))
+inserted_ascends [] zero x asc below above = (tt, tt)
+inserted_ascends [] (suc k) x asc below above = (tt, tt)
+inserted_ascends (r ∷ rs) zero x asc below above = let h = above (omega arith) in ((h, before_all_trans (pair x) (pair r) (pairs rs) h asc.0), asc)
+inserted_ascends (r ∷ rs) (suc k) x asc below above =
+    (before_inserted r x k rs (below 0 (omega arith)) asc.0, inserted_ascends rs k x asc.1 (λ m l. below (suc m) (omega arith)) (λ h. above (omega arith)))
 
-pub removed_ascends : (ps : List (ℕ × ℕ)) (k : ℕ) → Ascending ps → Ascending (remove ps k)
+-- any may be taken out
+before_removed : (r : LinkRecord) (k : ℕ) (rs : List LinkRecord) → BeforeAll (pair r) (pairs rs) → BeforeAll (pair r) (pairs (remove rs k))
+before_removed r zero [] all = tt
+before_removed r (suc k) [] all = tt
+before_removed r zero (s ∷ rs) all = all.1
+before_removed r (suc k) (s ∷ rs) all = (all.0, before_removed r k rs all.1)
+
+pub removed_ascends : (rs : List LinkRecord) (k : ℕ) → Ascending (pairs rs) → Ascending (pairs (remove rs k))
 removed_ascends [] zero asc = tt
 removed_ascends [] (suc k) asc = tt
-removed_ascends (q ∷ qs) zero asc = asc.1
-removed_ascends (q ∷ qs) (suc k) asc = (before_removed q k qs asc.0, removed_ascends qs k asc.1)
+removed_ascends (r ∷ rs) zero asc = asc.1
+removed_ascends (r ∷ rs) (suc k) asc = (before_removed r k rs asc.0, removed_ascends rs k asc.1)
 
--- a pair of the list stands at its place
-module _ (q p : ℕ × ℕ) (qs : List (ℕ × ℕ)) (asc : Ascending (q ∷ qs)) (on : among p (q ∷ qs) ≡ true) where
-  on_later : comes_before q p ≡ true → among p qs ≡ true
-  on_later t = ⊎_elim (λ s. absurd (before_apart q p (before_true q p t) (sym (same_tells p q s)))) (λ later. later) (or_cases (is q p) (among p qs) on)
+-- a pair is among those of the records that stand there
+pub among_decides : (rs : List LinkRecord) (x : LinkRecord) → Decides (among (pair x) (pairs rs)) (Contains rs x)
+among_decides rs x =
+    Decides-contains rs x _
+    (Decides-by_or (λ r. eqb x.left r.left && eqb x.right r.right) (λ r. r ≡ x) (λ l. among (pair x) (pairs l))
+    (λ r. (λ t. grind (arith, nat_tests, same_record r x), λ e. grind (arith, nat_tests))) refl (λ _ _. refl) rs)
 
-  on_here : comes_before q p ≡ false → p ≡ q
-  on_here f = ⊎_elim (λ e. e) (λ h. absurd (both_ways _ (before_first_not_among p q qs h asc) on)) (before_false q p f)
+pub not_among : (rs : List LinkRecord) (x : LinkRecord) → ((k : ℕ) → k < length rs → get_or rs k x ≡ x → ⊥) → among (pair x) (pairs rs) ≡ false
+not_among rs x none = ⊎_elim (λ on. let c = (among_decides rs x).0 on in absurd (none c.0 c.1 c.2)) (λ off. off) (cases_Bool (among (pair x) (pairs rs)))
 
-pub place_inside : (ps : List (ℕ × ℕ)) (p : ℕ × ℕ) → Ascending ps → among p ps ≡ true → place ps p < length ps
-place_inside [] p asc on = absurd (false≢true on)
-place_inside (q ∷ qs) p asc on =
+-- in whichever order
+among_permuted : (rs ss : List LinkRecord) (x : LinkRecord) → IsPermutation rs ss → among (pair x) (pairs rs) ≡ among (pair x) (pairs ss)
+among_permuted rs ss x p =
+    same_from_decides _ _ (among_decides rs x) (Decides-like _ (Contains-permutation ss rs x (IsPermutation-sym rs ss p)) (Contains-permutation rs ss x p) (among_decides ss x))
+
+pub among_inserted : (rs : List LinkRecord) (k : ℕ) (y x : LinkRecord) → among (pair x) (pairs (insert rs k y)) ≡ among (pair x) (pairs (y ∷ rs))
+among_inserted rs k y x = sym (among_permuted (y ∷ rs) (insert rs k y) x (IsPermutation-insert rs k y))
+
+-- no record stands twice
+removed_apart : (rs : List LinkRecord) (k : ℕ) (y : LinkRecord) → Ascending (pairs rs) → k < length rs → y ≡ get_or rs k y → among (pair y) (pairs (remove rs k)) ≡ false
+removed_apart rs k y asc h is =
+    not_among (remove rs k) y
+    (λ m l same.
     ⊎_elim
-    (λ t. omega (arith, place_on q p qs t, place_inside qs p asc.1 (on_later q p qs asc on t)))
-    (λ f. omega (arith, place_here q p qs f))
-    (cases_Bool (comes_before q p))
+    (λ below. before_apart _ _ (rw (← is) at (ascending_at rs m k y asc below h)) (ap pair (sym (get_or-remove_below rs k y m below h) ∙ same)))
+    (λ above.
+    before_apart _ _ (rw (← is) at (ascending_at rs k (m + 1) y asc (omega arith) (omega (arith, length-remove rs k h))))
+    (ap pair (sym same ∙ get_or-remove_above rs k y m above h)))
+    (cases_lt m k))
 
-or_past : (a b c : Bool) → (b ≡ true → a ≡ false) → (a || (not b && c)) ≡ (not b && (a || c))
-or_past true true c apart = absurd (false≢true (sym (apart refl)))
-or_past true false c apart = refl
-or_past false b c apart = refl
-
-or_out : (b c : Bool) → (b ≡ true → c ≡ false) → c ≡ (not b && (b || c))
-or_out true c gone = gone refl
-or_out false c gone = refl
-
--- what is in the list then was in it, and is not p
-pub among_removed : (ps : List (ℕ × ℕ)) (p : ℕ × ℕ) → Ascending ps → among p ps ≡ true → (x : ℕ × ℕ) → among x (remove ps (place ps p)) ≡ (not (is p x) && among x ps)
-among_removed [] p asc on x = absurd (false≢true on)
-among_removed (q ∷ qs) p asc on x =
-    ⊎_elim
-    (λ t.
-    ap (λ k. among x (remove (q ∷ qs) k)) (place_on q p qs t)
-    ∙ ap (λ s. is q x || s) (among_removed qs p asc.1 (on_later q p qs asc on t) x)
-    ∙ or_past (is q x) (is p x) (among x qs) (λ s. ap (is q) (same_tells x p s) ∙ not_same p q (λ e. before_apart q p (before_true q p t) (sym e))))
-    (λ f.
-    ap (λ k. among x (remove (q ∷ qs) k)) (place_here q p qs f)
-    ∙ or_out (is p x) (among x qs) (λ s. ap (λ y. among y qs) (same_tells x p s ∙ on_here q p qs asc on f) ∙ before_not_among q qs asc.0)
-    ∙ ap (λ y. not (is p x) && (is y x || among x qs)) (on_here q p qs asc on f))
-    (cases_Bool (comes_before q p))
+pub among_removed : (rs : List LinkRecord) (k : ℕ) (y x : LinkRecord) → Ascending (pairs rs) → k < length rs → y ≡ get_or rs k y → among (pair x) (pairs (remove rs k)) ≡ (not (eqb x.left y.left && eqb x.right y.right) && among (pair x) (pairs rs))
+among_removed rs k y x asc h is =
+    let all = among_permuted rs (y ∷ remove rs k) x (IsPermutation-remove rs k y h is) in
+    let apart : (eqb x.left y.left && eqb x.right y.right) ≡ true → among (pair x) (pairs (remove rs k)) ≡ false =
+    λ t. ap (λ z. among z (pairs (remove rs k))) (same_tells (pair x) (pair y) t) ∙ removed_apart rs k y asc h is in
+    grind arith

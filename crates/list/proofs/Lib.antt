@@ -1,4 +1,5 @@
 pub mod Ascends
+pub mod Links
 pub mod ListEdits
 pub mod LookedUp
 pub mod Moved

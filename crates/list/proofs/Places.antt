@@ -1,104 +1,90 @@
--- The place of a pair in an ascending list.
-use Rattle.std.proofs.Common.{◌≡◌, ℕ, zero, suc, ◌+◌, ◌<◌, ◌≤◌, true, false, ◌&&◌, ◌||◌, eqb, ◌⊎◌, List, [], ◌∷◌, length, get_or, drop, sym, refl, ap, ◌∙◌, subst, inl, inr, ⊎_elim, arith}
-use Rattle.std.proofs.lemmas.List.{drop_more, drop_all}
-use Rattle.std.proofs.lemmas.Bool.{cases_Bool, both_ways, ltb-true, lt-ltb, eqb-true, eq-eqb, and_parts, and_from, or_cases, or_left, or_right, cond-true, cond-false}
-use Rattle.alignment.specs.Laws.{among, Before, BeforeAll, Ascending}
-use Rattle.alignment.proofs.Unique.{before_trans, cases_before, before_apart, not_same, before_first_not_among}
-use Rattle.list.specs.Layout.{comes_before, place}
+-- Where a search among ascending records ends, and what stands there.
+use Rattle.std.proofs.Common.{◌≡◌, ℕ, ◌+◌, ◌<◌, ◌≤◌, true, false, List, [], ◌∷◌, length, get_or, Ok, Err, Result, ◌⊎◌, sym, refl, ap, ◌∙◌, ap₂, ⊎_elim, cond, arith}
+use Rattle.std.specs.List.{prefix_len}
+use Rattle.std.specs.List.Sorted.{IsSearchInRange, IsBinarySearchResult, IsNonDecreasingBy}
+use Rattle.std.specs.declared.cmp.Ordering.{Ordering}
+use Rattle.std.specs.Ordering.{nat_cmp, ordering_then, ordering_index}
+use Rattle.std.proofs.lemmas.Cmp.{nat_cmp_total, on_total, then_total}
+use Rattle.std.proofs.lemmas.Bool.{cases_lt, cases_order, both_ways}
+use Rattle.std.proofs.lemmas.Bool.Decides.{nat_tests}
+use Rattle.std.proofs.lemmas.List.Sorted.{searchable_from_sorted}
+use Rattle.std.proofs.lemmas.List.Sums.{prefix_len_is, prefix_len_passes, prefix_len_stops}
+use Rattle.alignment.specs.Laws.{among, Before, Ascending}
+use Rattle.alignment.proofs.Unique.{before_apart}
+use Rattle.list.specs.declared.record.LinkRecord.{LinkRecord}
+use Rattle.list.specs.Layout.{pairs, comes_before, place, searched}
+use Rattle.list.proofs.Ascends.{pair, ascending_at, same_record, among_decides, not_among}
 
--- the test of two pairs for their order
-pub before_true : (q p : ℕ × ℕ) → comes_before q p ≡ true → Before q p
-before_true q p t =
-    ⊎_elim
-    (λ a. inl (ltb-true _ _ a))
-    (λ b. let u = and_parts (eqb q.0 p.0) _ b in inr (eqb-true _ _ u.0, ltb-true _ _ u.1))
-    (or_cases _ _ t)
+-- the place of a pair, by the records
+place_of : (rs : List LinkRecord) (p : ℕ × ℕ) → place (pairs rs) p ≡ prefix_len (λ r. comes_before (pair r) p) rs
+place_of [] p = refl
+place_of (r ∷ rs) p = ap (λ n. cond (comes_before (pair r) p) (1 + n) 0) (place_of rs p)
 
-before_from : (q p : ℕ × ℕ) → Before q p → comes_before q p ≡ true
-before_from q p (inl a) = or_left _ _ (lt-ltb _ _ a)
-before_from q p (inr b) = or_right _ _ (and_from _ _ (eq-eqb _ _ b.0) (lt-ltb _ _ b.1))
+-- those before its place come before it, and the one there does not
+module _ (rs : List LinkRecord) (p : ℕ × ℕ) (k : ℕ) where
+  module _ (at : k ≡ place (pairs rs) p) where
+    pub before_place : (m : ℕ) (d : LinkRecord) → m < k → Before (pair (get_or rs m d)) p
+    before_place m d less = let t = prefix_len_passes (λ r. comes_before (pair r) p) rs m d (omega (arith, place_of rs p)) in grind (arith, nat_tests)
 
-pub before_false : (q p : ℕ × ℕ) → comes_before q p ≡ false → (p ≡ q) ⊎ Before p q
-before_false q p f = ⊎_elim inl (λ ne. ⊎_elim inr (λ h. absurd (both_ways _ f (before_from q p h))) ne) (cases_before p q)
+    pub at_place : (d : LinkRecord) → k < length rs → Before (pair (get_or rs k d)) p → ⊥
+    at_place d inside h =
+        let on = at ∙ place_of rs p in
+        let t = ap (λ n. comes_before (pair (get_or rs n d)) p) on ∙ prefix_len_stops (λ r. comes_before (pair r) p) rs d (omega (arith, on)) in
+        absurd (grind (arith, nat_tests))
 
-pub not_before : (q p : ℕ × ℕ) → (Before q p → ⊥) → comes_before q p ≡ false
-not_before q p never = ⊎_elim (λ t. absurd (never (before_true q p t))) (λ f. f) (cases_Bool (comes_before q p))
+  -- that tells the place
+  place_is : k ≤ length rs → (d : LinkRecord) → ((m : ℕ) → m < k → Before (pair (get_or rs m d)) p) → (k < length rs → Before (pair (get_or rs k d)) p → ⊥) → place (pairs rs) p ≡ k
+  place_is h d below stop =
+      place_of rs p
+      ∙ prefix_len_is (λ r. comes_before (pair r) p) rs k d h (λ m l. let b = below m l in grind (arith, nat_tests)) (λ l. let b = stop l in grind (arith, nat_tests))
 
-module _ (q p : ℕ × ℕ) (qs : List (ℕ × ℕ)) where
-  pub place_on : comes_before q p ≡ true → place (q ∷ qs) p ≡ suc (place qs p)
-  place_on t = cond-true (comes_before q p) (1 + place qs p) 0 t ∙ omega arith
-
-  pub place_here : comes_before q p ≡ false → place (q ∷ qs) p ≡ 0
-  place_here f = cond-false (comes_before q p) (1 + place qs p) 0 f
-
-before_at : (q : ℕ × ℕ) (qs : List (ℕ × ℕ)) (k : ℕ) (d : ℕ × ℕ) → BeforeAll q qs → k < length qs → Before q (get_or qs k d)
-before_at q [] k d all h = absurd (omega arith)
-before_at q (r ∷ qs) zero d all h = all.0
-before_at q (r ∷ qs) (suc k) d all h = before_at q qs k d all.1 (omega arith)
-
--- a pair of an ascending list that comes before p stands before the place of p
-pub place_after : (ps : List (ℕ × ℕ)) (p : ℕ × ℕ) (k : ℕ) (d : ℕ × ℕ) → Ascending ps → k < length ps → comes_before (get_or ps k d) p ≡ true → k < place ps p
-place_after [] p k d asc h t = absurd (omega arith)
-place_after (q ∷ qs) p zero d asc h t = omega (arith, place_on q p qs t)
-place_after (q ∷ qs) p (suc k) d asc h t =
-    let first = before_from q p (before_trans q (get_or qs k d) p (before_at q qs k d asc.0 (omega arith)) (before_true _ p t)) in
-    omega (arith, place_on q p qs first, place_after qs p k d asc.1 (omega arith) t)
-
--- one that does not stands at that place or after it
-pub place_not_after : (ps : List (ℕ × ℕ)) (p : ℕ × ℕ) (k : ℕ) (d : ℕ × ℕ) → k < length ps → comes_before (get_or ps k d) p ≡ false → place ps p ≤ k
-place_not_after [] p k d h f = absurd (omega arith)
-place_not_after (q ∷ qs) p zero d h f = omega (arith, place_here q p qs f)
-place_not_after (q ∷ qs) p (suc k) d h f =
-    ⊎_elim
-    (λ t. omega (arith, place_on q p qs t, place_not_after qs p k d (omega arith) f))
-    (λ here. omega (arith, place_here q p qs here))
-    (cases_Bool (comes_before q p))
-
-ascending_drop : (k : ℕ) (ps : List (ℕ × ℕ)) → Ascending ps → Ascending (drop k ps)
-ascending_drop zero ps asc = asc
-ascending_drop (suc k) [] asc = tt
-ascending_drop (suc k) (p ∷ ps) asc = ascending_drop k ps asc.1
-
--- a pair that does not come before p is looked for from the place of p on
-among_from_place : (ps : List (ℕ × ℕ)) (p x : ℕ × ℕ) → comes_before x p ≡ false → among x ps ≡ among x (drop (place ps p) ps)
-among_from_place [] p x off = refl
-among_from_place (q ∷ qs) p x off =
-    ⊎_elim
-    (λ t.
-    let other = not_same x q (λ e. both_ways _ off (ap (λ y. comes_before y p) e ∙ t)) in
-    ap (λ s. s || among x qs) other ∙ among_from_place qs p x off ∙ ap (λ k. among x (drop k (q ∷ qs))) (sym (place_on q p qs t)))
-    (λ f. ap (λ k. among x (drop k (q ∷ qs))) (sym (place_here q p qs f)))
-    (cases_Bool (comes_before q p))
-
--- the pair at the place of p, and the pairs from p on
-module _ (ps : List (ℕ × ℕ)) (p : ℕ × ℕ) (asc : Ascending ps) where
-  module _ (inside : place ps p < length ps) (d : ℕ × ℕ) where
-    pub at_place : comes_before (get_or ps (place ps p) d) p ≡ false
-    at_place = ⊎_elim (λ t. absurd (omega (arith, place_after ps p (place ps p) d asc inside t))) (λ f. f) (cases_Bool (comes_before (get_or ps (place ps p) d) p))
-
-    from_place : drop (place ps p) ps ≡ get_or ps (place ps p) d ∷ drop (place ps p + 1) ps
-    from_place = drop_more ps (place ps p) d inside
-
-    -- it is the first of them
-    pub first_from_place : (x : ℕ × ℕ) → comes_before x p ≡ false → Before x (get_or ps (place ps p) d) → among x ps ≡ false
-    first_from_place x off h =
-        among_from_place ps p x off ∙ ap (among x) from_place
-        ∙ before_first_not_among x _ _ h (subst Ascending from_place (ascending_drop (place ps p) ps asc))
-
-    -- p is in the list where it is that pair
-    pub among_at_place : among p ps ≡ (eqb p.0 (get_or ps (place ps p) d).0 && eqb p.1 (get_or ps (place ps p) d).1)
-    among_at_place =
+module _ (rs : List LinkRecord) (x : LinkRecord) where
+  -- a record that is there stands at its place, and one that is not comes before the one there
+  module _ (k : ℕ) (at : k ≡ place (pairs rs) (pair x)) (inside : k < length rs) where
+    pub found_at : Ascending (pairs rs) → among (pair x) (pairs rs) ≡ true → x ≡ get_or rs k x
+    found_at asc on =
+        let c = (among_decides rs x).0 on in
         ⊎_elim
-        (λ e. among_from_place ps p p itself ∙ ap (among p) from_place ∙ or_left _ _ (same_from p _ e) ∙ sym (same_from p _ e))
-        (λ h. first_from_place p itself h ∙ sym (not_same p _ (before_apart p _ h)))
-        (before_false (get_or ps (place ps p) d) p at_place)
-      where
-        itself : comes_before p p ≡ false
-        itself = not_before p p (λ h. before_apart p p h refl)
+        (λ same. sym c.2 ∙ ap (λ n. get_or rs n x) same)
+        (λ (other : (c.0 < k) ⊎ (k < c.0)).
+        ⊎_elim
+        (λ less. absurd (before_apart _ _ (before_place rs (pair x) k at c.0 x less) (ap pair c.2)))
+        (λ more. absurd (at_place rs (pair x) k at x inside (rw c.2 at (ascending_at rs k c.0 x asc more c.1))))
+        other)
+        (cases_order c.0 k)
 
-        same_from : (x y : ℕ × ℕ) → x ≡ y → (eqb x.0 y.0 && eqb x.1 y.1) ≡ true
-        same_from x y e = and_from _ _ (eq-eqb _ _ (ap (λ (z : ℕ × ℕ). z.0) e)) (eq-eqb _ _ (ap (λ (z : ℕ × ℕ). z.1) e))
+    pub missing_at : among (pair x) (pairs rs) ≡ false → Before (pair x) (pair (get_or rs k x))
+    missing_at off =
+        let other : (e : (get_or rs k x).left ≡ x.left) → (get_or rs k x).right ≡ x.right → ⊥ =
+        λ e f. both_ways _ off ((among_decides rs x).1 (k, inside, same_record _ x e f)) in
+        let after = at_place rs (pair x) k at x inside in
+        grind arith
 
-  -- where all come before p, what does not is not in the list
-  pub none_from_place : length ps ≤ place ps p → (x : ℕ × ℕ) → comes_before x p ≡ false → among x ps ≡ false
-  none_from_place past x off = among_from_place ps p x off ∙ ap (among x) (drop_all (place ps p) ps past)
+  -- a binary search for x ends at it, or, where it is not among the records, at its place
+  abbrev compared : LinkRecord → Ordering
+  compared y = ordering_then (nat_cmp y.left x.left) (nat_cmp y.right x.right)
+
+  rise : Ascending (pairs rs) → IsNonDecreasingBy (λ y. ordering_index (compared y)) rs
+  rise asc =
+      searchable_from_sorted (then_total (on_total (λ (r : LinkRecord). r.left) nat_cmp_total) (on_total (λ (r : LinkRecord). r.right) nat_cmp_total))
+      (λ y. y) rs x (λ k d _ h. let b = ascending_at rs k (k + 1) d asc (omega arith) h in grind (arith, nat_tests))
+
+  pub search_ends : Ascending (pairs rs) → (r : Result ℕ ℕ) → IsSearchInRange r (length rs) → IsBinarySearchResult compared rs r → r ≡ searched (pairs rs) (pair x)
+  search_ends asc (Ok k) inside equal =
+      let e = equal x in
+      let here : get_or rs k x ≡ x = grind (arith, nat_tests, same_record (get_or rs k x) x) in
+      let at =
+      place_is rs (pair x) k (omega arith) x
+      (λ m l. rw here at (ascending_at rs m k x asc l inside))
+      (λ _ h. before_apart _ _ h (ap pair here)) in
+      sym (ap₂ (λ b n. cond b (Ok n) (Err n)) ((among_decides rs x).1 (k, inside, here)) at)
+  search_ends asc (Err k) inside parted =
+      let below : (m : ℕ) → m < k → Before (pair (get_or rs m x)) (pair x) =
+      λ m l. let o = (parted (rise asc)).0 m x (omega arith) l in grind (arith, nat_tests) in
+      let above : (m : ℕ) → k ≤ m → m < length rs → Before (pair x) (pair (get_or rs m x)) =
+      λ m l h. let o = (parted (rise asc)).1 m x l h in grind (arith, nat_tests) in
+      let off =
+      not_among rs x
+      (λ m l same. ⊎_elim (λ less. before_apart _ _ (below m less) (ap pair same)) (λ more. before_apart _ _ (above m more l) (ap pair (sym same))) (cases_lt m k)) in
+      let at = place_is rs (pair x) k inside x below (λ h b. let a = above k (omega arith) h in absurd (grind arith)) in
+      sym (ap₂ (λ b n. cond b (Ok n) (Err n)) off at)

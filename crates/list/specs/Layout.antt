@@ -1,5 +1,5 @@
 -- How a list keeps its links in a block of records.
-use Rattle.std.specs.Prelude.{ℕ, ◌-◌, min, Bool, ◌&&◌, ◌||◌, List, map, length, take, ◌==◌, nat_lt}
+use Rattle.std.specs.Prelude.{ℕ, ◌-◌, min, Bool, cond, ◌&&◌, ◌||◌, List, map, length, take, Ok, Err, Result, ◌==◌, nat_lt}
 use Rattle.std.specs.List.{prefix_len}
 use Rattle.alignment.specs.Alignment.{Alignment}
 use Rattle.alignment.specs.Laws.{among}
@@ -40,3 +40,7 @@ comes_before q p = nat_lt q.0 p.0 || (q.0 == p.0 && nat_lt q.1 p.1)
 -- how many of the pairs, from the first on, come before p
 abbrev pub place : List (ℕ × ℕ) → ℕ × ℕ → ℕ
 place ps p = prefix_len (λ q. comes_before q p) ps
+
+-- where a search for p ends: at p, if it is among the pairs, and otherwise where it would stand
+abbrev pub searched : List (ℕ × ℕ) → ℕ × ℕ → Result ℕ ℕ
+searched ps p = cond (among p ps) (Ok (place ps p)) (Err (place ps p))

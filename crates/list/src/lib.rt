@@ -6,4 +6,3 @@
 
 pub mod link_list;
 pub mod record;
-mod shifts;

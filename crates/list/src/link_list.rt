@@ -11,6 +11,8 @@ use sheet::lengths::Lengths;
 pub const MOST_LINKS: usize = 4_096;
 
 /// A sheet kept as a list of links, by left word and then right word, in a block of records that the host hands over and gets back.
+///
+/// The count stands beside the block since the records after the links are the host's and stay as they are.
 #[derive(Drop)]
 pub struct LinkList {
     lengths: Lengths,

@@ -26,11 +26,6 @@ impl LinkList {
     pub fn into_block(self) -> Vec<LinkRecord>
         ensures { result ≡ self.block }
     {
-        let LinkList {
-            lengths: _,
-            block,
-            count: _,
-        } = self;
-        block
+        self.block
     }
 }

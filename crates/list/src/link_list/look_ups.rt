@@ -4,7 +4,6 @@ ghost use Rattle.list.specs.Lists.{alignment_of};
 ghost use Rattle.list.specs.Proper.{list_proper};
 
 use crate::link_list::LinkList;
-use crate::record::LinkRecord;
 use sheet::lengths::Lengths;
 use sheet::sheet::Sheet;
 
@@ -21,21 +20,15 @@ impl Sheet for LinkList {
 
     /// Whether the two words are linked; "no" outside the sheet.
     fn linked(&self, left: u16, right: u16) -> bool {
-        let k = self.place(left, right);
-        k < self.count && self.block[k] == LinkRecord { left, right }
+        self.search(left, right).is_ok()
     }
 
     /// The least right word at or after `right` that is linked to `left`, if there is one.
     fn next_link(&self, left: u16, right: u16) -> Option<u16> {
-        let first = self.place(left, right);
-        if first >= self.count {
-            return None;
-        }
-        let link = self.block[first];
-        if link.left == left {
-            Some(link.right)
-        } else {
-            None
-        }
+        let (Ok(first) | Err(first)) = self.search(left, right);
+        self.links()
+            .get(first)
+            .filter(|link| link.left == left)
+            .map(|link| link.right)
     }
 }

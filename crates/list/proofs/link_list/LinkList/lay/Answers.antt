@@ -1,6 +1,6 @@
 use Rattle.std.proofs.Common.{[], arith}
 use Rattle.std.proofs.lemmas.Bool.{false≢true}
-use Rattle.list.specs.ListLaws.{ordered_from}
+use Rattle.list.proofs.Links.{ordered_from}
 use Rattle.list.proofs.link_list.LinkList.lay.Goals as goal
 
 pub invariant_of-result : goal.invariant_of-result
