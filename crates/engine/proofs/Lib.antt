@@ -1,3 +1,1 @@
-mod Sheets
-mod Whole
 mod Copies

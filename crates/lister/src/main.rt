@@ -15,8 +15,6 @@ fn main(rt: HostRuntime) -> io::Result<()> {
     rt.stdin().take(MOST_BYTES as u64).read_to_end(&mut text)?;
     let block = vec![in rt.alloc(); 0; BLOCK_BYTES]?;
     let mut listing = Vec::new(rt.alloc());
-    if list(&text, block, &mut listing).is_err() {
-        return Err(AllocError.into());
-    }
+    list(&text, block, &mut listing).map_err(|_| AllocError)?;
     rt.stdout().write_all(&listing)
 }

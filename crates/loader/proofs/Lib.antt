@@ -1,6 +1,1 @@
-mod Each
-mod Digits
-mod Fields
-mod Headings
-mod Lines
-mod Turns
+mod Cuts

@@ -1,3 +1,3 @@
 pub mod Rest
-pub mod Located
+pub mod Opened
 pub mod Turns

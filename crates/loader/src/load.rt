@@ -1,10 +1,10 @@
 //! Opening a text and loading its links.
 
-ghost use Rattle.std.specs.Prelude.{◌≡◌, ◌≤◌, length, IfOk};
+ghost use Rattle.std.specs.Prelude.{◌≡◌, drop, IfOk};
 ghost use Rattle.text.specs.Lines.{lines, line_end};
-ghost use Rattle.text.specs.Loading.{first_lengths, opening, loading, loaded, AsLinkings};
-ghost use Rattle.loader.specs.Turns.{NextRecord, LineLoaded};
-ghost use Rattle.loader.specs.Located.{located, opened};
+ghost use Rattle.text.specs.Loading.{first_lengths, later, opening, loading, loaded, AsLinkings};
+ghost use Rattle.loader.specs.Turns.{LineLoaded};
+ghost use Rattle.loader.specs.Opened.{opened};
 
 use crate::record::{read_lengths, read_record};
 use crate::split::next_line;
@@ -13,43 +13,25 @@ use sheet::sheet::Editable;
 use text::fault::{Fault, RecordFault};
 use text::line::Record;
 
-/// A line's answer, with the number of the line where it is a fault.
-fn on_line<T>(line: u32, answer: Result<T, RecordFault>) -> Result<T, (u32, RecordFault)>
-    ensures { result ≡ located line answer }
-{
-    match answer {
-        Ok(value) => Ok(value),
-        Err(cause) => Err((line, cause)),
-    }
-}
-
-/// The lengths in the first line, and the place after it.
-fn first_record(text: &[u8]) -> Result<(Lengths, usize), RecordFault>
+/// The lengths in the first line, and the text after it.
+fn first_record(text: &[u8]) -> Result<(Lengths, &[u8]), RecordFault>
     ensures lengths { opened result ≡ first_lengths (lines text.now) }
-    ensures place { IfOk result (λ p. (p.1 ≡ line_end text.now) × (p.1 ≤ length text.now)) }
-{
-    let (line, _) = next_line(text)?;
-    let lengths = read_lengths(line)?;
-    Ok((lengths, line.len() + 1))
-}
-
-/// What the next line says, and the text after it.
-fn next_record(text: &[u8]) -> Result<(Record, &[u8]), RecordFault>
-    ensures { NextRecord text.now result }
+    ensures rest { IfOk result (λ p. p.1.now ≡ drop (line_end text.now) text.now) }
+    ensures later { IfOk result (λ p. lines p.1.now ≡ later (lines text.now)) }
 {
     let (line, rest) = next_line(text)?;
-    let record = read_record(line)?;
-    Ok((record, rest))
+    Ok((read_lengths(line)?, rest))
 }
 
-/// The lengths of the sheet in a text, and the place after its first line, from which `load` goes on.
+/// The lengths of the sheet in a text, and the rest of the text, which `load` loads.
 ///
 /// A fault is one of line 1.
-pub fn open(text: &[u8]) -> Result<(Lengths, usize), Fault>
+pub fn open(text: &[u8]) -> Result<(Lengths, &[u8]), Fault>
     ensures lengths { opened result ≡ opening (lines text.now) }
-    ensures place { IfOk result (λ p. (p.1 ≡ line_end text.now) × (p.1 ≤ length text.now)) }
+    ensures rest { IfOk result (λ p. p.1.now ≡ drop (line_end text.now) text.now) }
+    ensures later { IfOk result (λ p. lines p.1.now ≡ later (lines text.now)) }
 {
-    let first = on_line(1, first_record(text))?;
+    let first = first_record(text).map_err(|cause| (1, cause))?;
     Ok(first)
 }
 
@@ -60,8 +42,8 @@ fn load_line<'a, S: Editable>(
 ) -> Result<Option<&'a [u8]>, RecordFault>
     ensures { LineLoaded (S.state sheet.old) text.now result (S.state sheet.new) }
 {
-    let (record, rest) = next_record(text)?;
-    match record {
+    let (line, rest) = next_line(text)?;
+    match read_record(line)? {
         Record::Link(left, right) => {
             sheet.link(left, right)?;
             Ok(Some(rest))
@@ -79,7 +61,7 @@ pub fn load<S: Editable>(sheet: &mut S, text: &[u8]) -> Result<u32, Fault>
 {
     let mut rest = text;
     let mut made = 0;
-    while let Some(tail) = on_line(made + 2, load_line(sheet, rest))? {
+    while let Some(tail) = load_line(sheet, rest).map_err(|cause| (made + 2, cause))? {
         rest = tail;
         made += 1;
     }

@@ -4,9 +4,12 @@ use Rattle.std.specs.Char.{is_ascii_digit}
 use Rattle.std.specs.Str.{all_ascii_digits}
 use Rattle.std.proofs.lemmas.Bool.{cond-true, and_from, and_parts}
 use Rattle.std.proofs.lemmas.Bool.Decides.{nat_tests}
+use Rattle.std.proofs.lemmas.List.Folds.{list_all-append}
+use Rattle.std.proofs.lemmas.List.Sums.{AllPass-from_list_all}
+use Rattle.std.proofs.lemmas.List.Elements.{All-nil, All-cons, All-weaker}
 use Rattle.sheet.specs.Lengths.{length_fits}
 use Rattle.text.specs.Letters.{tab, feed, letter}
-use Rattle.text.specs.Lines.{Lacks, pieces, lines, fields, clean, all_clean}
+use Rattle.text.specs.Lines.{pieces, lines, fields, clean, all_clean}
 use Rattle.text.specs.Records.{and_then, of_fields, two_numbers, number_in, first_headed, heading, lengths_by, record_by, lengths_in, record_in, as_lengths}
 use Rattle.text.specs.Written.{line, line_body}
 use Rattle.text.specs.declared.line.Head.{Head}
@@ -14,7 +17,7 @@ use Rattle.text.specs.declared.line.Head.TheVariants as heads
 use Rattle.text.specs.declared.line.Field.TheVariants.{Number}
 use Rattle.text.specs.declared.line.Record.TheVariants.{Link, End}
 use Rattle.text.proofs.Numbers.{reads_back, no_digit, every}
-use Rattle.text.proofs.Pieces.{lacks_append, pieces_cut, pieces_whole, lines_cut}
+use Rattle.text.proofs.Pieces.{Other, Lacks, pieces_cut, pieces_whole, lines_cut}
 
 digit_clean : (c : ℕ) → is_ascii_digit c ≡ true → clean c ≡ true
 digit_clean c e = grind (arith, nat_tests)
@@ -26,10 +29,11 @@ digits_clean (c ∷ cs) e =
     and_from (clean c) (all_clean cs) (digit_clean c p.0) (digits_clean cs p.1)
 
 clean_append : (p q : List ℕ) → all_clean p ≡ true → all_clean q ≡ true → all_clean (p ++ q) ≡ true
-clean_append [] q x y = y
-clean_append (c ∷ p) q x y =
-    let h = and_parts (clean c) (all_clean p) x in
-    and_from (clean c) (all_clean (p ++ q)) h.0 (clean_append p q h.1 y)
+clean_append p q x y = list_all-append clean p q ∙ and_from (all_clean p) (all_clean q) x y
+
+-- a line feed is not clean
+clean_ended : (bs : List ℕ) → all_clean bs ≡ true → Lacks feed bs
+clean_ended bs e = All-weaker (λ b. clean b ≡ true) (Other feed) (λ b c. grind (arith, nat_tests)) bs (AllPass-from_list_all clean bs e)
 
 letter_clean : (h : Head) → clean (letter h) ≡ true
 letter_clean heads.Sheet = refl
@@ -37,42 +41,35 @@ letter_clean heads.Link = refl
 letter_clean heads.End = refl
 letter_clean heads.Fault = refl
 
-not_letter : (h : Head) (c : ℕ) → c < 33 → letter h ≡ c → ⊥
-not_letter heads.Sheet c low e = omega arith
-not_letter heads.Link c low e = omega arith
-not_letter heads.End c low e = omega arith
-not_letter heads.Fault c low e = omega arith
+letter_other : (h : Head) → Other tab (letter h)
+letter_other heads.Sheet = refl
+letter_other heads.Link = refl
+letter_other heads.End = refl
+letter_other heads.Fault = refl
 
 abbrev pub pair_body : Head → ℕ → ℕ → List ℕ
 pair_body h n m = line_body h (Number n ∷ Number m ∷ [])
 
 module _ (h : Head) (n m : ℕ) (n-small : n < 1000) (m-small : m < 1000) where
-  low_lacks : (c n : ℕ) → c < 33 → n < 1000 → Lacks c (decimal n)
-  low_lacks c n low small = no_digit n small c (λ d. omega (arith, d))
-
-  pub pair_ended : Lacks feed (pair_body h n m)
-  pair_ended = (
-    not_letter h 10 (omega arith),
-    (
-      (λ e. absurd (omega arith)),
-      lacks_append feed (decimal n) (tab ∷ (decimal m ++ [])) (low_lacks 10 n (omega arith) n-small)
-          ((λ e. absurd (omega arith)), lacks_append feed (decimal m) [] (low_lacks 10 m (omega arith) m-small) tt),
-    ),
-  )
-
   pair_clean : all_clean (pair_body h n m) ≡ true
   pair_clean =
       and_from (clean (letter h)) _ (letter_clean h)
       (clean_append (decimal n) (tab ∷ (decimal m ++ [])) (digits_clean (decimal n) (every n n-small))
       (clean_append (decimal m) [] (digits_clean (decimal m) (every m m-small)) refl))
 
+  pub pair_ended : Lacks feed (pair_body h n m)
+  pair_ended = clean_ended (pair_body h n m) pair_clean
+
+  number_lacks : (n : ℕ) → n < 1000 → Lacks tab (decimal n)
+  number_lacks n small = no_digit n small tab (λ d. omega (arith, d))
+
   pair_fields : fields (pair_body h n m) ≡ (letter h ∷ []) ∷ decimal n ∷ decimal m ∷ []
   unfolding fields
   pair_fields =
-      pieces_cut tab (letter h ∷ []) (decimal n ++ tab ∷ (decimal m ++ [])) (not_letter h 9 (omega arith), tt)
+      pieces_cut tab (letter h ∷ []) (decimal n ++ tab ∷ (decimal m ++ [])) (All-cons (Other tab) (letter h) [] (letter_other h) (All-nil (Other tab)))
       ∙ ap (λ ps. (letter h ∷ []) ∷ ps)
-      (pieces_cut tab (decimal n) (decimal m ++ []) (low_lacks 9 n (omega arith) n-small)
-      ∙ ap (λ ps. decimal n ∷ ps) (ap (pieces tab) (append-nil (decimal m)) ∙ pieces_whole tab (decimal m) (low_lacks 9 m (omega arith) m-small)))
+      (pieces_cut tab (decimal n) (decimal m ++ []) (number_lacks n n-small)
+      ∙ ap (λ ps. decimal n ∷ ps) (ap (pieces tab) (append-nil (decimal m)) ∙ pieces_whole tab (decimal m) (number_lacks m m-small)))
 
   pair_heading : heading (pair_body h n m) ≡ Ok (letter h, decimal n ∷ decimal m ∷ [])
   unfolding heading

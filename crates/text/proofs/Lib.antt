@@ -1,6 +1,5 @@
 mod Examples
 pub mod Pieces
-pub mod Steps
 mod Numbers
 mod Bodies
 mod Upto

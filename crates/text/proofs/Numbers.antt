@@ -1,15 +1,16 @@
 -- A number as it is written, read back.
-use Rattle.std.proofs.Common.{◌≡◌, ℕ, ◌^◌, ◌<◌, ◌≤◌, true, not, ◌||◌, eqb, leb, length, get_or, Ok, decimal, refl, ap, ◌∙◌, ⊎_elim, arith}
+use Rattle.std.proofs.Common.{◌≡◌, ℕ, ◌^◌, ◌<◌, ◌≤◌, true, not, ◌||◌, eqb, length, get_or, Ok, decimal, refl, ap, ◌∙◌, ⊎_elim, arith}
 use Rattle.std.specs.Str.Parse.{digits_value}
 use Rattle.std.specs.Int.{IsInRange}
 use Rattle.std.specs.Fmt.{digits}
 use Rattle.std.specs.Str.{all_ascii_digits}
 use Rattle.std.proofs.lemmas.Fmt.{length-decimal-le, decimal_nonempty, first_decimal, digits_decimal, digits_value-decimal}
 use Rattle.std.proofs.lemmas.Str.Parse.{IsNumeralModel, numerals_by_value, tells_all_ascii_digits, not_in_digits}
-use Rattle.std.proofs.lemmas.Bool.{cond-true, and_from, or_left, or_right, le-leb, ne_eqb, not_from_false, cases_eq}
-use Rattle.text.specs.Lines.{Lacks}
+use Rattle.std.proofs.lemmas.List.Elements.{All-from_get_or}
+use Rattle.std.proofs.lemmas.Bool.Decides.{nat_tests}
+use Rattle.std.proofs.lemmas.Bool.{cond-true, or_left, or_right, ne_eqb, not_from_false, cases_eq}
 use Rattle.text.specs.Records.{is_number, number_in}
-use Rattle.text.proofs.Pieces.{lacks_all}
+use Rattle.text.proofs.Pieces.{Other, Lacks}
 
 own : IsNumeralModel (λ ds. all_ascii_digits ds ≡ true) (digits_value 10)
 own = numerals_by_value (λ ds. all_ascii_digits ds ≡ true) tells_all_ascii_digits
@@ -37,9 +38,11 @@ module _ (n : ℕ) (small : n < 1000) where
 
   is_read : is_number (decimal n) ≡ true
   is_read =
-      and_from (leb 1 (length (decimal n))) _ (le-leb 1 (length (decimal n)) (decimal_nonempty n wide))
-      (and_from (leb (length (decimal n)) 3) _ (le-leb (length (decimal n)) 3 few)
-      (and_from (all_ascii_digits (decimal n)) _ every bare))
+      let some = decimal_nonempty n wide in
+      let all = every in
+      let alone = bare in
+      let short = few in
+      grind (arith, nat_tests)
 
   pub reads_back : (k : ℕ) → number_in k (decimal n) ≡ Ok n
   unfolding number_in
@@ -47,4 +50,4 @@ module _ (n : ℕ) (small : n < 1000) where
 
   -- no digit is a byte that is none
   pub no_digit : (c : ℕ) → (IsInRange 48 57 c → ⊥) → Lacks c (decimal n)
-  no_digit c ne = lacks_all c (decimal n) (not_in_digits own (decimal n) c every ne)
+  no_digit c ne = All-from_get_or (Other c) (decimal n) 0 (λ i h. ne_eqb _ c (not_in_digits own (decimal n) c every ne i h))

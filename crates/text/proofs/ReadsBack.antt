@@ -9,13 +9,12 @@ use Rattle.sheet.specs.Edits.{State, Outcome}
 use Rattle.sheet.specs.Lengths.{length_fits}
 use Rattle.text.specs.Letters.{feed, letter}
 use Rattle.text.specs.Lines.{lines, line_end}
-use Rattle.text.specs.Loading.{on_line, opening, loaded, linked_on, loading}
+use Rattle.text.specs.Loading.{on_line, opening, loaded, linked_on, line_on, loading}
 use Rattle.text.specs.Written.{link_line, end_line, lengths_line, body_text, sheet_text}
 use Rattle.text.specs.ReadsBack.{ReadsBack}
 use Rattle.text.specs.declared.line.Head.TheVariants as heads
 use Rattle.text.proofs.Bodies.{pair_body, pair_ended, lengths_read, link_read, end_read, lines_pair}
 use Rattle.text.proofs.Pieces.{line_end_cut}
-use Rattle.text.proofs.Steps.{loading_end, loading_link}
 use Rattle.text.proofs.Upto.{upto, upto_none, upto_all, upto_row, upto_skip, linking_next}
 
 -- the lines of links, without their ends
@@ -65,7 +64,7 @@ module _ (a : Alignment) (proper : Proper a) where
   link_loads i j k f q low high below on some =
       let left = proper.lefts_high in
       let right = proper.rights_high in
-      loading_link k (at i j f) (pair_body heads.Link i (suc j) ∷ q) i (suc j) (link_read i (suc j) (omega arith) (omega arith))
+      ap (λ r. line_on k (at i j f) r (λ t. loading (k + 1) t q)) (link_read i (suc j) (omega arith) (omega arith))
       ∙ ap (λ (o : Outcome). linked_on k o.after o.answer (λ t. loading (k + 1) t q)) (linking_next a proper i j f low high below on some)
 
   row_loads : (i j k f : ℕ) (q : List (List ℕ)) → 1 ≤ i → i ≤ a.lefts → j ≤ a.rights → count (a.linked i) j ≤ f → loading k (at i 0 f) (bodies (row a.linked i j) ++ q) ≡ loading (k + count (a.linked i) j) (at i j (f - count (a.linked i) j)) q
@@ -115,7 +114,7 @@ module _ (a : Alignment) (proper : Proper a) where
       ap (λ b. loading 0 (record { sheet = b; free = free }) (lines (body_text a))) (sym (upto_none a proper))
       ∙ ap (loading 0 (at 0 a.rights free)) body_lines
       ∙ rows_load a.lefts 0 free last (omega arith) enough
-      ∙ loading_end (0 + links a) (at a.lefts a.rights (free - links a)) last end_read
+      ∙ ap (λ r. line_on (0 + links a) (at a.lefts a.rights (free - links a)) r (λ t. loading (0 + links a + 1) t [])) end_read
       ∙ ap (λ k. loaded (Ok k) (at a.lefts a.rights (free - links a))) (omega arith)
       ∙ ap (λ b. loaded (Ok (links a)) (record { sheet = b; free = free - links a })) (upto_all a proper)
 

@@ -1,21 +1,11 @@
 -- A text as its lines, and a line as its fields.
-use Rattle.std.specs.Prelude.{ℕ, ◌+◌, Bool, true, cond, ◌&&◌, ◌||◌, List, [], ◌∷◌, ◌==◌, ◌≢◌, nat_le}
+use Rattle.std.specs.Prelude.{ℕ, ◌+◌, Bool, cond, ◌&&◌, ◌||◌, List, [], ◌∷◌, ◌==◌, nat_le}
+use Rattle.std.specs.List.{slice_split, list_all}
 use Rattle.text.specs.Letters.{tab, feed}
-
--- no byte of bs is sep
-abbrev pub Lacks : ℕ → List ℕ → Type 0
-Lacks sep [] = Unit {0}
-Lacks sep (b ∷ bs) = (b ≢ sep) × Lacks sep bs
-
--- b goes before the first piece
-abbrev pub onto : ℕ → List (List ℕ) → List (List ℕ)
-onto b [] = (b ∷ []) ∷ []
-onto b (p ∷ ps) = (b ∷ p) ∷ ps
 
 -- the pieces before, between and after the separators
 abbrev pub pieces : ℕ → List ℕ → List (List ℕ)
-pieces sep [] = [] ∷ []
-pieces sep (b ∷ bs) = cond (b == sep) ([] ∷ pieces sep bs) (onto b (pieces sep bs))
+pieces sep bs = slice_split (λ b. b == sep) bs
 
 -- all but the last
 abbrev pub front : List (List ℕ) → List (List ℕ)
@@ -40,5 +30,4 @@ abbrev pub clean : ℕ → Bool
 clean b = b == tab || (nat_le 33 b && nat_le b 126)
 
 abbrev pub all_clean : List ℕ → Bool
-all_clean [] = true
-all_clean (b ∷ bs) = clean b && all_clean bs
+all_clean bs = list_all clean bs

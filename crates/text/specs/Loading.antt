@@ -26,11 +26,6 @@ abbrev pub first_lengths : List (List ℕ) → Result (ℕ × ℕ) RecordFault
 first_lengths [] = Err (Line Unended)
 first_lengths (l ∷ ls) = lengths_in l
 
--- the record in the first of the lines
-abbrev pub first_record : List (List ℕ) → Result Record RecordFault
-first_record [] = Err (Line Unended)
-first_record (l ∷ ls) = record_in l
-
 -- the lines after the first
 abbrev pub later : List (List ℕ) → List (List ℕ)
 later [] = []

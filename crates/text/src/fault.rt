@@ -31,7 +31,7 @@ pub enum RecordFault {
     Field(FieldFault),
     /// A head out of its place.
     Head,
-    /// The sheet's own refusal, whole, and the field that it is about (0: the whole line).
+    /// The sheet's own refusal, whole, and the field that it is about (0, as the fault line prints it: the whole line).
     Sheet(Refusal, u8),
 }
 
@@ -45,16 +45,16 @@ pub struct Fault {
 impl From<LineFault> for RecordFault {
     ghost from_gives = { λ e r. r ≡ Line e };
 
-    fn from(e: LineFault) -> RecordFault {
-        RecordFault::Line(e)
+    fn from(fault: LineFault) -> RecordFault {
+        RecordFault::Line(fault)
     }
 }
 
 impl From<FieldFault> for RecordFault {
     ghost from_gives = { λ e r. r ≡ Field e };
 
-    fn from(e: FieldFault) -> RecordFault {
-        RecordFault::Field(e)
+    fn from(fault: FieldFault) -> RecordFault {
+        RecordFault::Field(fault)
     }
 }
 
@@ -62,12 +62,13 @@ impl From<FieldFault> for RecordFault {
 impl From<Refusal> for RecordFault {
     ghost from_gives = { λ e r. r ≡ Sheet e (refused_field e) };
 
-    fn from(e: Refusal) -> RecordFault {
-        match e {
-            Refusal::LeftOutside => RecordFault::Sheet(e, 2),
-            Refusal::RightOutside => RecordFault::Sheet(e, 3),
-            _ => RecordFault::Sheet(e, 0),
-        }
+    fn from(refusal: Refusal) -> RecordFault {
+        let field = match refusal {
+            Refusal::LeftOutside => 2,
+            Refusal::RightOutside => 3,
+            _ => 0,
+        };
+        RecordFault::Sheet(refusal, field)
     }
 }
 
@@ -75,11 +76,8 @@ impl From<Refusal> for RecordFault {
 impl From<(u32, RecordFault)> for Fault {
     ghost from_gives = { λ e r. r ≡ record { line = e.0; cause = e.1 } };
 
-    fn from(e: (u32, RecordFault)) -> Fault {
-        Fault {
-            line: e.0,
-            cause: e.1,
-        }
+    fn from((line, cause): (u32, RecordFault)) -> Fault {
+        Fault { line, cause }
     }
 }
 

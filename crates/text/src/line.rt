@@ -60,7 +60,7 @@ pub enum Field {
     Name(Layer),
 }
 
-/// What a line after the first one says.
+/// What a line after the first one says. It is no option: that there is no link would not say that the end was read.
 #[derive(Clone, Copy, Debug, PartialEq, Eq)]
 pub enum Record {
     Link(u16, u16),

@@ -21,7 +21,7 @@ pub fn copy_links<P: Sheet, Q: Editable>(
     ensures carries_over { CarriesOver (P.Sheet.meaning from.now) (Q.Editable.state onto.old) (length buffer.old) result (Q.Editable.state onto.new) }
 {
     let end = write_sheet(buffer, 0, from)?;
-    let (_, rest) = open(&buffer[0..end])?;
-    let made = load(onto, &buffer[rest..end])?;
+    let (_, rest) = open(&buffer[..end])?;
+    let made = load(onto, rest)?;
     Ok(made)
 }

@@ -17,14 +17,14 @@ use writer::lines::{fault_len, write_fault};
 use writer::whole::{sheet_len, write_sheet};
 
 /// The sheet of a text on a grid. A sheet without links is refused at its end.
+#[tactic(auto, using(alignment::proofs::Counts::links_none), unfolding(crate::specs::Listing::sheet_in))]
 fn read_grid(text: &[u8], block: Vec<u8>) -> Result<Grid, Fault>
     requires { 32768 ≤ vec_len block }
     ensures { MatchResult result (λ g. sheet_in text.now ≡ Ok (alignment_of g)) (λ f. sheet_in text.now ≡ Err f) }
 {
     let (lengths, rest) = open(text)?;
     let mut grid = Grid::lay(lengths, block);
-    let links = load(&mut grid, &text[rest..])?;
-    if links == 0 {
+    if load(&mut grid, rest)? == 0 {
         // No line made a link, so the end is line 2.
         return Err((2, RecordFault::from(Refusal::NoLinks)).into());
     }
@@ -36,9 +36,7 @@ fn lengthen(out: &mut Vec<u8>, more: usize) -> Result<usize, AllocError>
     ensures { Lengthened out.old.items (vec_capacity out.old) more result out.new.items }
 {
     let at = out.len();
-    let Some(end) = at.checked_add(more) else {
-        return Err(AllocError);
-    };
+    let end = at.checked_add(more).ok_or(AllocError)?;
     out.resize(end, 0)?;
     Ok(at)
 }
@@ -48,7 +46,8 @@ fn append_sheet<S: Sheet>(out: &mut Vec<u8>, sheet: &S) -> Result<(), AllocError
     ensures { Appended out.old.items (vec_capacity out.old) (sheet_text (S.meaning sheet.now)) result out.new.items }
 {
     let at = lengthen(out, sheet_len(sheet))?;
-    let _ = write_sheet(out, at, sheet);
+    // The buffer is as long as the text needs, so nothing is refused.
+    write_sheet(out, at, sheet).unwrap();
     Ok(())
 }
 
@@ -57,16 +56,17 @@ fn append_fault(out: &mut Vec<u8>, fault: Fault) -> Result<(), AllocError>
     ensures { Appended out.old.items (vec_capacity out.old) (fault_line fault) result out.new.items }
 {
     let at = lengthen(out, fault_len(fault))?;
-    let _ = write_fault(out, at, fault);
+    // The buffer is as long as the line needs, so nothing is refused.
+    write_fault(out, at, fault).unwrap();
     Ok(())
 }
 
 /// The bytes of a text that are read.
+#[tactic(auto, using(std::proofs::lemmas::List::take_min))]
 fn first_bytes(text: &[u8]) -> &[u8]
     ensures { result.now ≡ take most_bytes text.now }
 {
-    let read = text.len().min(MOST_BYTES);
-    &text[0..read]
+    &text[..MOST_BYTES.min(text.len())]
 }
 
 /// Appends the listing of a text that is read to its end.

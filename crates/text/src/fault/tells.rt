@@ -38,11 +38,9 @@ impl RecordFault {
         ensures { result ≡ fault_field self }
     {
         match self {
-            RecordFault::Line(_) => 0,
-            RecordFault::Field(FieldFault::Count) => 0,
-            RecordFault::Field(FieldFault::Number(field)) => field,
+            RecordFault::Line(_) | RecordFault::Field(FieldFault::Count) => 0,
             RecordFault::Head => 1,
-            RecordFault::Sheet(_, field) => field,
+            RecordFault::Field(FieldFault::Number(field)) | RecordFault::Sheet(_, field) => field,
         }
     }
 }
