@@ -1,6 +1,4 @@
-mod Before
 mod Digits
-mod Fields
-mod LinkLines
+mod LinksFrom
 mod SheetText
-mod Wrote
+mod Unwritten

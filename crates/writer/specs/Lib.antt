@@ -1,3 +1,3 @@
-pub mod Tabbed
-pub mod Walk
-pub mod Wrote
+pub mod Digits
+pub mod LinksFrom
+pub mod Unwritten

@@ -1,12 +1,78 @@
 //! One line of any kind: a head, its fields, and a line feed.
 
-ghost use Rattle.std.specs.Prelude.{◌≡◌, ◌+◌, ◌<◌, ◌≤◌, length, MatchResult};
+ghost use Rattle.std.specs.Prelude.{◌≡◌, ℕ, ◌+◌, ◌<◌, ◌≤◌, List, length, MatchResult};
 ghost use Rattle.sheet.specs.declared.refusal.Refusal.TheVariants.{BlockTooShort};
 ghost use Rattle.text.specs.Written.{field_bytes, line, wrote, put, writing};
 
 use crate::number::{fill_number, number_len};
 use sheet::refusal::Refusal;
+use std::marker::Model;
 use text::line::{Field, Head};
+
+/// A line that is to be written. Clauses see its bytes.
+#[derive(Drop)]
+pub(crate) struct Line<const N: usize> {
+    pub(crate) head: Head,
+    pub(crate) fields: [Field; N],
+}
+
+impl<const N: usize> Model for Line<N> {
+    ghost Value = { List ℕ };
+
+    ghost view = { λ l. line l.head l.fields };
+
+    ghost invariant = { λ l. length l.fields ≤ 8 };
+}
+
+impl<const N: usize> Line<N> {
+    /// How many bytes the line has.
+    pub(crate) fn len(&self) -> usize
+        ensures value { result ≡ length self.now }
+        ensures short { result ≤ 90 }
+    {
+        let mut len = 2;
+        for &field in &self.fields {
+            len += 1 + field_len(field);
+        }
+        len
+    }
+
+    /// Writes the line into a buffer that has room for it, from `at` on, and answers the place after it.
+    pub(crate) fn put(&self, out: &mut [u8], at: usize) -> usize
+        requires { at + length self.now ≤ length out.old }
+        ensures end { result ≡ at + length self.now }
+        ensures after { out.new ≡ wrote out.old at self.now }
+    {
+        out[at] = self.head.letter() as u8;
+        let mut end = at + 1;
+        for &field in &self.fields {
+            out[end] = b'\t';
+            let start = end + 1;
+            end = start + field_len(field);
+            fill_field(&mut out[start..end], field);
+        }
+        out[end] = b'\n';
+        end + 1
+    }
+
+    /// Writes the line, or refuses and leaves the buffer as it was.
+    pub(crate) fn write(&self, out: &mut [u8], at: usize) -> Result<usize, Refusal>
+        ensures { put result out.new ≡ writing out.old at self.now }
+    {
+        check_room(out.len(), at, self.len())?;
+        Ok(self.put(out, at))
+    }
+}
+
+/// Refuses where a buffer of `size` bytes has no room for `len` bytes from `at` on.
+pub(crate) fn check_room(size: usize, at: usize, len: usize) -> Result<(), Refusal>
+    ensures { MatchResult result (λ _. at + len ≤ size) (λ e. (size < at + len) × (e ≡ BlockTooShort)) }
+{
+    if at > size || len > size - at {
+        return Err(Refusal::BlockTooShort);
+    }
+    Ok(())
+}
 
 /// How many bytes a field has.
 fn field_len(field: Field) -> usize
@@ -28,58 +94,4 @@ fn fill_field(part: &mut [u8], field: Field)
         Field::Number(number) => fill_number(part, number),
         Field::Name(layer) => part.copy_from_slice(layer.name()),
     }
-}
-
-/// How many bytes a line with these fields has, whatever its head.
-pub(crate) fn line_len(fields: &[Field]) -> usize
-    requires { length fields.now ≤ 8 }
-    ensures { (h : Head) → result ≡ length (line h fields.now) }
-{
-    let mut len = 2;
-    for field in fields {
-        len += 1 + field_len(*field);
-    }
-    len
-}
-
-/// Refuses where a buffer of `size` bytes has no room for `len` bytes from `at` on.
-pub(crate) fn check_room(size: usize, at: usize, len: usize) -> Result<(), Refusal>
-    ensures { MatchResult result (λ _. at + len ≤ size) (λ e. (size < at + len) × (e ≡ BlockTooShort)) }
-{
-    if at > size || len > size - at {
-        return Err(Refusal::BlockTooShort);
-    }
-    Ok(())
-}
-
-/// Writes a line that the buffer has room for, and answers the place after it.
-pub(crate) fn put_line(out: &mut [u8], at: usize, head: Head, fields: &[Field]) -> usize
-    requires { at + length (line head fields.now) ≤ length out.old }
-    ensures end { result ≡ at + length (line head fields.now) }
-    ensures after { out.new ≡ wrote out.old at (line head fields.now) }
-{
-    out[at] = head.letter() as u8;
-    let mut end = at + 1;
-    for field in fields {
-        out[end] = b'\t';
-        let start = end + 1;
-        end = start + field_len(*field);
-        fill_field(&mut out[start..end], *field);
-    }
-    out[end] = b'\n';
-    end + 1
-}
-
-/// Writes a line, or refuses and leaves the buffer as it was.
-pub(crate) fn write_line(
-    out: &mut [u8],
-    at: usize,
-    head: Head,
-    fields: &[Field],
-) -> Result<usize, Refusal>
-    requires { length fields.now ≤ 8 }
-    ensures { put result out.new ≡ writing out.old at (line head fields.now) }
-{
-    check_room(out.len(), at, line_len(fields))?;
-    Ok(put_line(out, at, head, fields))
 }

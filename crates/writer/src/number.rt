@@ -7,13 +7,7 @@ pub(crate) fn number_len(number: u32) -> usize
     ensures value { result ≡ length (decimal number) }
     ensures short { result ≤ 10 }
 {
-    let mut rest = number;
-    let mut len = 1;
-    while rest >= 10 {
-        rest /= 10;
-        len += 1;
-    }
-    len
+    number.max(1).ilog10() as usize + 1
 }
 
 /// Fills a part that is as long as the number with its digits, the last one first.
@@ -22,11 +16,9 @@ pub(crate) fn fill_number(part: &mut [u8], number: u32)
     ensures { part.new ≡ decimal number }
 {
     let mut rest = number;
-    let mut last = part.len() - 1;
-    while rest >= 10 {
-        part[last] = b'0' + (rest % 10) as u8;
+    // By index: after a loop over `iter_mut().rev()` nothing is known of the digits.
+    for place in (0..part.len()).rev() {
+        part[place] = b'0' + (rest % 10) as u8;
         rest /= 10;
-        last -= 1;
     }
-    part[last] = b'0' + rest as u8;
 }
