@@ -4,5 +4,6 @@
 
 #![tactic(auto)]
 
+pub mod operate;
 pub mod operation;
 pub mod run;

@@ -48,3 +48,5 @@ pub enum Answer {
     /// There is no sheet at that place, or none that can do this.
     Nowhere,
 }
+
+mod told;

@@ -1,10 +1,11 @@
-//! Running a history on an editable sheet.
+//! Running a history.
 
 ghost use Rattle.std.specs.Prelude.{◌≡◌};
-ghost use Rattle.history.specs.Operations.{told, looked_up, editing, stepped, answered};
-ghost use Rattle.history.specs.Histories.{ran, running};
+ghost use Rattle.history.specs.Operations.{told, looked_up, editing};
+ghost use Rattle.history.specs.Histories.{ran, running, running_by};
 ghost use Rattle.history.specs.Laws.{places};
 
+use crate::operate::Operate;
 use crate::operation::{Answer, Edit, LookUp, Operation};
 use sheet::refusal::Refusal;
 use sheet::sheet::{Editable, Sheet};
@@ -15,8 +16,8 @@ pub fn edit<S: Editable>(sheet: &mut S, edit: Edit) -> Answer
     ensures after { S.state sheet.new ≡ (editing (S.state sheet.old) edit).after }
 {
     match edit {
-        Edit::Link(left, right) => tell(sheet.link(left, right)),
-        Edit::Unlink(left, right) => tell(sheet.unlink(left, right)),
+        Edit::Link(left, right) => sheet.link(left, right).into(),
+        Edit::Unlink(left, right) => sheet.unlink(left, right).into(),
         Edit::Wipe => {
             sheet.wipe();
             Answer::Done
@@ -35,27 +36,31 @@ pub fn look_up<S: Sheet>(sheet: &S, free: Option<u32>, question: LookUp) -> Answ
         }
         LookUp::Linked(left, right) => Answer::Linked(sheet.linked(left, right)),
         LookUp::NextLink(left, right) => Answer::NextLink(sheet.next_link(left, right)),
-        LookUp::Free => match free {
-            Some(free) => Answer::Free(free),
-            None => Answer::Nowhere,
-        },
-    }
-}
-
-/// Makes one operation.
-pub fn operate<S: Editable>(sheet: &mut S, operation: Operation) -> Answer
-    ensures answer { result ≡ answered (S.state sheet.old) operation }
-    ensures after { S.state sheet.new ≡ stepped (S.state sheet.old) operation }
-{
-    match operation {
-        Operation::Edit(e) => edit(sheet, e),
-        Operation::LookUp(l) => look_up(sheet, Some(sheet.free()), l),
+        LookUp::Free => free.map_or(Answer::Nowhere, Answer::Free),
     }
 }
 
 /// Makes the operations one after another, refused ones included, and writes each answer at its place.
 ///
-/// Fewer places for answers than operations are refused; then nothing is done. Free and links together stay the same in any case.
+/// Fewer places for answers than operations are refused; then nothing is done.
+pub fn run_each<S, O: Operate<S>>(
+    on: &mut S,
+    history: &[O],
+    answers: &mut [Answer],
+) -> Result<(), Refusal>
+    ensures { ran result (O.state on.new) answers.new ≡ running_by O.answered O.stepped (O.state on.old) history.now answers.old }
+{
+    if answers.len() < history.len() {
+        return Err(Refusal::BlockTooShort);
+    }
+    // By index: after a loop over a zip of `iter_mut` nothing is known of the answers.
+    for (k, operation) in history.iter().enumerate() {
+        answers[k] = operation.operate(on);
+    }
+    Ok(())
+}
+
+/// Runs a history on an editable sheet, as `run_each`. Free and links together stay the same in any case.
 pub fn run<S: Editable>(
     sheet: &mut S,
     history: &[Operation],
@@ -64,21 +69,5 @@ pub fn run<S: Editable>(
     ensures done { ran result (S.state sheet.new) answers.new ≡ running (S.state sheet.old) history.now answers.old }
     ensures conserved { places (S.state sheet.new) ≡ places (S.state sheet.old) }
 {
-    if answers.len() < history.len() {
-        return Err(Refusal::BlockTooShort);
-    }
-    for k in 0..history.len() {
-        answers[k] = operate(sheet, history[k]);
-    }
-    Ok(())
-}
-
-/// An edit's answer.
-fn tell(res: Result<(), Refusal>) -> Answer
-    ensures { result ≡ told res }
-{
-    match res {
-        Ok(()) => Answer::Done,
-        Err(refusal) => Answer::Refused(refusal),
-    }
+    run_each(sheet, history, answers)
 }

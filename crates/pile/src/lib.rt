@@ -4,6 +4,5 @@
 
 #![tactic(auto)]
 
-pub mod base;
-pub mod fixed;
+pub mod bottom;
 pub mod piles;

@@ -7,8 +7,7 @@ ghost use Rattle.stack.specs.Places.{look_told};
 ghost use Rattle.stack.specs.Histories.{living};
 ghost use Rattle.pile.specs.Piles.{pile_of, sheets_of, at_bottom};
 
-use crate::base::Base;
-use crate::fixed::Fixed;
+use crate::bottom::{Bottom, Fixed, Open};
 use history::operation::{Answer, LookUp};
 use layers::intersection::Intersection;
 use layers::union::Union;
@@ -46,16 +45,25 @@ pub fn run_on_every_layer<P: Editable, Q: Editable, S: Sheet>(
     let (first, second, third) = sheets;
     let shown = Window {
         below: Mirrored {
-            below: Base { sheet: first },
+            below: Bottom {
+                sheet: first,
+                kind: Open,
+            },
         },
         left,
         right,
     };
     let common = Intersection {
         first: Swapped {
-            below: Base { sheet: second },
+            below: Bottom {
+                sheet: second,
+                kind: Open,
+            },
         },
-        second: Fixed { sheet: third },
+        second: Bottom {
+            sheet: third,
+            kind: Fixed,
+        },
     };
     let mut pile = Union {
         first: shown,

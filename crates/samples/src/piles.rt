@@ -6,7 +6,7 @@ use layers::union::Union;
 use layers::window::{Stretch, Window};
 use list::link_list::LinkList;
 use list::record::LinkRecord;
-use pile::base::Base;
+use pile::bottom::{Bottom, Open};
 use pile::piles::{ask_with_mirror, run_on_every_layer};
 use sheet::lengths::Lengths;
 use sheet::refusal::Refusal;
@@ -210,7 +210,10 @@ fn a_history_reaches_every_place_of_a_pile(rt: HostRuntime) -> Result<(), Fail> 
     assert_eq!(rt; answers[4], Answer::NextLink(Some(3)));
     assert_eq!(rt; answers[5], Answer::Linked(true));
     assert!(rt; grid.linked(2, 3) && list.linked(3, 1) && third.linked(1, 3));
-    let base = Base { sheet: grid };
+    let base = Bottom {
+        sheet: grid,
+        kind: Open,
+    };
     assert_eq!(rt;
         ask_with_mirror(&base, LookUp::NextLink(2, 0)),
         Answer::NextLink(Some(1))

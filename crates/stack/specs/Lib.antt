@@ -1,4 +1,3 @@
-pub mod Routes
 pub mod Stacks
 pub mod Places
 pub mod Histories

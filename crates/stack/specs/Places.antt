@@ -1,5 +1,5 @@
 -- Operations at any place of a stack: what each answers, and the stack that it leaves.
-use Rattle.std.specs.Prelude.{ℕ, List, [], ◌∷◌, Some, None, Ok, Option, Result}
+use Rattle.std.specs.Prelude.{◌≡◌, ℕ, Bool, true, false, List, [], ◌∷◌, Some, None, Ok, Option, Result}
 use Rattle.alignment.specs.Alignment.{Alignment}
 use Rattle.alignment.specs.Layers.{opposite}
 use Rattle.sheet.specs.Edits.{State}
@@ -13,7 +13,7 @@ use Rattle.history.specs.declared.operation.Answer.TheVariants.{Nowhere, Refused
 use Rattle.history.specs.Operations.{editing, told, looked_up}
 use Rattle.stack.specs.declared.step.Turn.{Turn}
 use Rattle.stack.specs.declared.step.Turn.TheVariants.{First, Second}
-use Rattle.stack.specs.Stacks.{Layer, borrowed, swap, mirror, window, Stack, base, fixed, over, both, reading, free_of}
+use Rattle.stack.specs.Stacks.{Layer, borrowed, swap, mirror, window, Stack, base, fixed, over, both, shown, reading, free_of}
 
 -- A look-up at the end of a route answers of what stands there.
 abbrev pub look_told : Stack → List Turn → LookUp → Answer
@@ -51,17 +51,33 @@ edit_told (over l t) (Second ∷ r) e = Nowhere
 edit_told (both j t u) (First ∷ r) e = edit_told t r e
 edit_told (both j t u) (Second ∷ r) e = edit_told u r e
 
+-- the same edit of the words that `w` gives for its own
+abbrev pub moved : (ℕ → ℕ → ℕ × ℕ) → Edit → Edit
+moved w (Link i j) = Link (w i j).0 (w i j).1
+moved w (Unlink i j) = Unlink (w i j).0 (w i j).1
+moved w Wipe = Wipe
+
 -- the same edit from the other side
 abbrev pub swapped_edit : Edit → Edit
-swapped_edit (Link i j) = Link j i
-swapped_edit (Unlink i j) = Unlink j i
-swapped_edit Wipe = Wipe
+swapped_edit e = moved (λ i j. (j, i)) e
 
 -- the same edit at the opposite one of m right words
 abbrev pub mirrored_edit : ℕ → Edit → Edit
-mirrored_edit m (Link i j) = Link i (opposite m j)
-mirrored_edit m (Unlink i j) = Unlink i (opposite m j)
-mirrored_edit m Wipe = Wipe
+mirrored_edit m e = moved (λ i j. (i, opposite m j)) e
+
+-- the layers that turn the edits of their own into edits of the sheet below
+abbrev pub turns : Layer → Bool
+turns borrowed = false
+turns swap = true
+turns mirror = true
+turns (window x n y m) = false
+
+-- the edit of the sheet below, with these links, that an edit of the layer is
+abbrev pub turned_edit : Layer → Alignment → Edit → Edit
+turned_edit borrowed a e = e
+turned_edit swap a e = swapped_edit e
+turned_edit mirror a e = mirrored_edit a.rights e
+turned_edit (window x n y m) a e = e
 
 -- the words of an edit have to be there
 abbrev pub check_edit : ℕ → ℕ → Edit → Result (Unit {0}) Refusal
@@ -102,3 +118,15 @@ changed (over l t) (First ∷ r) e = over l (held l t (changed t r e))
 changed (over l t) (Second ∷ r) e = over l t
 changed (both j t u) (First ∷ r) e = both j (changed t r e) u
 changed (both j t u) (Second ∷ r) e = both j t (changed u r e)
+
+-- an edit at the end of a route, by what it answers and the stack that it leaves
+pub record Edited (t : Stack) (r : List Turn) (e : Edit) (x : Answer) (u : Stack) : Type 0 where
+  pub answer : x ≡ edit_told t r e
+  pub after : u ≡ changed t r e
+
+-- a layer with these lengths over a stack, whose edit is another one of the sheet below
+pub record Turns (l : Layer) (t : Stack) (n m : ℕ) (e below : Edit) : Type 0 where
+  pub turned : turns l ≡ true
+  pub left : n ≡ (shown l (reading t)).lefts
+  pub right : m ≡ (shown l (reading t)).rights
+  pub edit : below ≡ turned_edit l (reading t) e

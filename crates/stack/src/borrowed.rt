@@ -2,11 +2,10 @@
 
 ghost use Rattle.stack.specs.Stacks.{over, borrowed};
 
+use crate::over;
 use crate::stacked::Stacked;
-use crate::step::{Turn, Way, parted};
+use crate::step::Turn;
 use history::operation::{Answer, Edit, LookUp};
-use history::run;
-use sheet::sheet::Sheet;
 
 /// A shared borrow, over the sheet that is lent. It lets everything below be asked, and nothing be changed.
 impl<'a, S: Stacked> Stacked for &'a S {
@@ -15,11 +14,7 @@ impl<'a, S: Stacked> Stacked for &'a S {
     ghost reads = { λ s. S.Stacked.reads s.now };
 
     fn look_up(&self, route: &[Turn], question: LookUp) -> Answer {
-        match parted(route) {
-            Way::Here => run::look_up(self, None, question),
-            Way::First(rest) => (**self).look_up(rest, question),
-            Way::Second(_) => Answer::Nowhere,
-        }
+        over::look_up(self, *self, |_| None, route, question)
     }
 
     fn edit(&mut self, _route: &[Turn], _edit: Edit) -> Answer {

@@ -4,11 +4,13 @@
 
 #![tactic(auto)]
 
+mod beside;
 pub mod borrowed;
 mod edits;
 pub mod intersection;
 pub mod laws;
 pub mod mirrored;
+mod over;
 pub mod run;
 pub mod stacked;
 pub mod step;

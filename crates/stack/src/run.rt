@@ -2,38 +2,38 @@
 
 ghost use Rattle.std.specs.Prelude.{◌≡◌};
 ghost use Rattle.history.specs.Histories.{ran};
-ghost use Rattle.stack.specs.Stacks.{reading};
-ghost use Rattle.stack.specs.Histories.{step_told, step_left, lived, living};
+ghost use Rattle.stack.specs.Stacks.{Stack, reading};
+ghost use Rattle.stack.specs.Histories.{step_told, step_left, living};
 
 use crate::stacked::Stacked;
 use crate::step::Step;
+use history::operate::Operate;
 use history::operation::{Answer, Operation};
+use history::run::run_each;
 use sheet::refusal::Refusal;
-use sheet::sheet::Sheet;
 
-/// Makes one operation at its place.
-pub fn operate<S: Stacked>(top: &mut S, step: Step) -> Answer
-    ensures answer { result ≡ step_told (S.stack top.old) step.entry }
-    ensures after { S.stack top.new ≡ step_left (S.stack top.old) step.entry }
-{
-    match step.operation {
-        Operation::Edit(edit) => top.edit(step.route, edit),
-        Operation::LookUp(question) => top.look_up(step.route, question),
+/// A step on any stack: its operation, at the end of its route.
+impl<'a, S: Stacked> Operate<S> for Step<'a> {
+    ghost View = { Stack };
+
+    ghost state = { S.Stacked.stack };
+
+    ghost answered = { step_told };
+
+    ghost stepped = { step_left };
+
+    fn operate(self, on: &mut S) -> Answer {
+        match self.operation {
+            Operation::Edit(edit) => on.edit(self.route, edit),
+            Operation::LookUp(question) => on.look_up(self.route, question),
+        }
     }
 }
 
-/// Makes the operations one after another, refused ones included, and writes each answer at its place.
-///
-/// Fewer places for answers than operations are refused; then nothing is done.
+/// Runs a history on a stack, as `run_each`. The sheet on top then means what the stack left shows.
 pub fn run<S: Stacked>(top: &mut S, history: &[Step], answers: &mut [Answer]) -> Result<(), Refusal>
     ensures done { ran result (S.stack top.new) answers.new ≡ living (S.stack top.old) history.now answers.old }
     ensures means { S.Sheet.meaning top.new ≡ reading (S.stack top.new) }
 {
-    if answers.len() < history.len() {
-        return Err(Refusal::BlockTooShort);
-    }
-    for k in 0..history.len() {
-        answers[k] = operate(top, history[k]);
-    }
-    Ok(())
+    run_each(top, history, answers)
 }

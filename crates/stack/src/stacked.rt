@@ -1,7 +1,7 @@
 //! Sheets that know what they stand on.
 
 ghost use Rattle.std.specs.Prelude.{◌≡◌};
-ghost use Rattle.stack.specs.Stacks.{Stack, reading};
+ghost use Rattle.stack.specs.Stacks.{Stack, reading, free_of};
 ghost use Rattle.stack.specs.Places.{look_told, edit_told, changed};
 
 use crate::step::Turn;
@@ -18,6 +18,16 @@ pub trait Stacked: Sheet {
     /// Asks the sheet at the end of the route.
     fn look_up(&self, route: &[Turn], question: LookUp) -> Answer
         ensures { result ≡ look_told (stack self.now) route.now question };
+
+    /// How many links the sheet can still take, where it can be edited.
+    fn free_if_editable(&self) -> Option<u32>
+        ensures { result ≡ free_of (stack self.now) }
+    {
+        match self.look_up(&[], LookUp::Free) {
+            Answer::Free(free) => Some(free),
+            _ => None,
+        }
+    }
 
     /// Edits the sheet at the end of the route.
     fn edit(&mut self, route: &[Turn], edit: Edit) -> Answer

@@ -1,15 +1,13 @@
 //! A swapped sheet in a stack.
 
-ghost use Rattle.std.specs.Prelude.{◌≡◌};
 ghost use Rattle.stack.specs.Stacks.{over, swap, shown};
-ghost use Rattle.stack.specs.Places.{swapped_edit};
 ghost use Rattle.std.proofs.Common.{ap};
 
-use crate::edits::{check, free, refuse};
+use crate::edits::{at_words, edit_turned};
+use crate::over;
 use crate::stacked::Stacked;
-use crate::step::{Turn, Way, parted};
+use crate::step::Turn;
 use history::operation::{Answer, Edit, LookUp};
-use history::run;
 use sheet::sheet::Sheet;
 use turned::swapped::Swapped;
 
@@ -20,32 +18,12 @@ impl<S: Stacked> Stacked for Swapped<S> {
     ghost reads = { λ s. ap (shown swap) (S.Stacked.reads s.below) };
 
     fn look_up(&self, route: &[Turn], question: LookUp) -> Answer {
-        match parted(route) {
-            Way::Here => run::look_up(self, free(&self.below), question),
-            Way::First(rest) => self.below.look_up(rest, question),
-            Way::Second(_) => Answer::Nowhere,
-        }
+        over::look_up(self, &self.below, S::free_if_editable, route, question)
     }
 
     fn edit(&mut self, route: &[Turn], edit: Edit) -> Answer {
-        match parted(route) {
-            Way::Here => match check(self.lengths(), edit) {
-                Ok(()) => self.below.edit(route, swap_words(edit)),
-                Err(refusal) => refuse(&self.below, refusal),
-            },
-            Way::First(rest) => self.below.edit(rest, edit),
-            Way::Second(_) => Answer::Nowhere,
-        }
-    }
-}
-
-/// The same edit from the other side.
-fn swap_words(edit: Edit) -> Edit
-    ensures { result ≡ swapped_edit edit }
-{
-    match edit {
-        Edit::Link(left, right) => Edit::Link(right, left),
-        Edit::Unlink(left, right) => Edit::Unlink(right, left),
-        Edit::Wipe => Edit::Wipe,
+        let lengths = self.lengths();
+        let turned = at_words(edit, |left, right| (right, left));
+        edit_turned(&mut self.below, lengths, route, edit, turned)
     }
 }

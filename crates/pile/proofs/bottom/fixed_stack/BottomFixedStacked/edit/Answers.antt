@@ -1,5 +1,5 @@
 use Rattle.pile.proofs.Untouched.{fixed_untouched}
-use Rattle.pile.proofs.fixed.FixedStacked.edit.Goals as goal
+use Rattle.pile.proofs.bottom.fixed_stack.BottomFixedStacked.edit.Goals as goal
 
 pub returns : goal.returns
 returns g c =
