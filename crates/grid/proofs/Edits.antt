@@ -14,20 +14,24 @@ use Rattle.grid.specs.Blocks.{flipped, takes_link, linked_block}
 use Rattle.grid.proofs.BitLaws.{flip_bits}
 use Rattle.grid.proofs.Places.{place_byte, place_tells_pair}
 
--- a block in which nothing is free for a link that is not there is too short, and stays as it is
-pub kept_where_none_free : (n m : ℕ) (block : List ℕ) (i j : ℕ) → within n i ≡ true → within m j ≡ true → (grid_alignment n m block).linked i j ≡ false → grid_free n m block ≡ 0 → linked_block n m block i j ≡ block
-kept_where_none_free n m block i j hi hj off none =
-    let most = links_le (with_link (grid_alignment n m block) i j) in
-    let more = links_with (grid_alignment n m block) i j hi hj off in
-    grind (arith, nat_tests)
+-- where two words are not linked and nothing is free, the block is too short, and stays as it is
+module _ (n m : ℕ) (block : List ℕ) (i j : ℕ) (hi : within n i ≡ true) (hj : within m j ≡ true) (off : (grid_alignment n m block).linked i j ≡ false) (none : grid_free n m block ≡ 0) where
+  pub short_from_none_free : enough block ≡ false
+  short_from_none_free =
+      let most = links_le (with_link (grid_alignment n m block) i j) in
+      let more = links_with (grid_alignment n m block) i j hi hj off in
+      grind (arith, nat_tests)
+
+  pub kept_where_none_free : linked_block n m block i j ≡ block
+  kept_where_none_free = let short = short_from_none_free in grind (arith, nat_tests)
 
 -- a link lies within the sheet, and counts
 module _ (n m : ℕ) (block : List ℕ) (i j : ℕ) (on : (grid_alignment n m block).linked i j ≡ true) where
-  linked_within : (within n i ≡ true) × (within m j ≡ true)
-  linked_within = (grind (arith, nat_tests), grind (arith, nat_tests))
+  pub linked_within : (enough block ≡ true) × (within n i ≡ true) × (within m j ≡ true)
+  linked_within = (grind (arith, nat_tests), grind (arith, nat_tests), grind (arith, nat_tests))
 
   without : links (grid_alignment n m block) ≡ links (without_link (grid_alignment n m block) i j) + 1
-  without = links_without (grid_alignment n m block) i j linked_within.0 linked_within.1 on
+  without = links_without (grid_alignment n m block) i j linked_within.1 linked_within.2 on
 
   pub linked_counts : 1 ≤ links (grid_alignment n m block)
   linked_counts = omega (arith, without)
@@ -88,4 +92,4 @@ module _ (l : Lengths) (block after : List ℕ) (i j : ℕ) (turned : after ≡ 
         let most = links_le old in
         let within = linked_within l.left l.right block i j on in
         let left : grid_free l.left l.right after ≡ old_state.free + 1 = grind (arith, nat_tests, length-set) in
-        ap₂ accepted turned_off left ∙ sym (unlinking_taken old_state i j within.0 within.1 on)
+        ap₂ accepted turned_off left ∙ sym (unlinking_taken old_state i j within.1 within.2 on)

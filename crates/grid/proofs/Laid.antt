@@ -1,7 +1,7 @@
 -- What a block is that was laid, and what a grid on it is.
 use Rattle.std.proofs.Common.{◌≡◌, ℕ, ◌+◌, ◌*◌, ◌/◌, ◌<◌, ◌≤◌, false, cond, List, ◌++◌, length, take, drop, replicate, refl, sym, ap, ap₂, ◌∙◌, arith}
 use Rattle.std.proofs.Math.Path.{fun_ext}
-use Rattle.std.proofs.lemmas.Bool.{cond-true, cond-false, le-leb}
+use Rattle.std.proofs.lemmas.Bool.{cond-true, le-leb}
 use Rattle.std.proofs.lemmas.Bool.Decides.{nat_tests}
 use Rattle.std.proofs.lemmas.Grind.{common_steps}
 use Rattle.std.proofs.lemmas.List.{length-take-le}
@@ -29,6 +29,17 @@ unfolding cleared
 no_bit_in_cleared k block b h =
     grind (arith, common_steps, bit_at-zero)
 
+-- nothing is linked in a block that is too short
+pub links_short : (n m : ℕ) (block : List ℕ) → enough block ≡ false → links (grid_alignment n m block) ≡ 0
+links_short n m block short = links_none (grid_alignment n m block) (λ i j. grind (arith, nat_tests))
+
+-- free and links make the pairs of words, or nothing in a block that is too short
+pub free_and_links : (n m : ℕ) (block : List ℕ) → grid_free n m block + links (grid_alignment n m block) ≡ cond (enough block) (n * m) 0
+free_and_links n m block =
+    let most = links_le (grid_alignment n m block) in
+    let none = links_short n m block in
+    grind (arith, nat_tests)
+
 -- a grid on a block that was laid has no links
 module _ (l : Lengths) (block : List ℕ) where
   unlinked_laid : grid_alignment l.left l.right (laid block) ≡ unlinked l.left l.right
@@ -47,13 +58,6 @@ module _ (l : Lengths) (block : List ℕ) where
       let free : grid_free l.left l.right (laid block) ≡ cond (enough block) (l.left * l.right) 0 = grind (arith, nat_tests, length_cleared) in
       rw is (ap₂ (λ a f. record { sheet = a; free = f }) unlinked_laid free)
 
-  -- a block that is too short to be laid has none either
-  no_links_short : enough block ≡ false → 0 ≡ links (grid_alignment l.left l.right block)
-  no_links_short short = no_links_laid block (sym (cond-false (enough block) (cleared block_bytes block) block short))
-
   pub grid_wiped : (after : List ℕ) → after ≡ laid block → grid_state l.left l.right after ≡ wiping (grid_state l.left l.right block)
   grid_wiped after is =
-      let most = links_le (grid_alignment l.left l.right block) in
-      let none = no_links_short in
-      let free : cond (enough block) (l.left * l.right) 0 ≡ grid_free l.left l.right block + links (grid_alignment l.left l.right block) = grind (arith, nat_tests) in
-      grid_laid after is ∙ ap (λ f. record { sheet = unlinked l.left l.right; free = f }) free
+      grid_laid after is ∙ ap (λ f. record { sheet = unlinked l.left l.right; free = f }) (sym (free_and_links l.left l.right block))

@@ -24,6 +24,10 @@ pub(crate) fn first_set(bytes: &[u8], from: usize, end: usize) -> Option<usize>
         return None;
     }
     let rest = bytes[from / 8] >> (from % 8);
+    if rest % 2 == 1 {
+        // In a row with many links most searches end where they begin.
+        return Some(from);
+    }
     let b = if rest != 0 {
         from + rest.trailing_zeros() as usize
     } else {

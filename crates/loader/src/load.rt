@@ -1,6 +1,6 @@
 //! Opening a text and loading its links.
 
-ghost use Rattle.std.specs.Prelude.{◌≡◌, drop, IfOk};
+ghost use Rattle.std.specs.Prelude.{◌≡◌, ◌+◌, length, drop, IfOk};
 ghost use Rattle.text.specs.Lines.{lines, line_end};
 ghost use Rattle.text.specs.Loading.{first_lengths, later, opening, loading, loaded, AsLinkings};
 ghost use Rattle.loader.specs.Turns.{LineLoaded};
@@ -14,8 +14,10 @@ use text::fault::{Fault, RecordFault};
 use text::line::Record;
 
 /// The lengths in the first line, and the text after it.
+#[tactic(auto, using(text::proofs::Pieces::line_end_splits))]
 fn first_record(text: &[u8]) -> Result<(Lengths, &[u8]), RecordFault>
     ensures lengths { opened result ≡ first_lengths (lines text.now) }
+    ensures place { IfOk result (λ p. line_end text.now + length p.1.now ≡ length text.now) }
     ensures rest { IfOk result (λ p. p.1.now ≡ drop (line_end text.now) text.now) }
     ensures later { IfOk result (λ p. lines p.1.now ≡ later (lines text.now)) }
 {
@@ -28,6 +30,7 @@ fn first_record(text: &[u8]) -> Result<(Lengths, &[u8]), RecordFault>
 /// A fault is one of line 1.
 pub fn open(text: &[u8]) -> Result<(Lengths, &[u8]), Fault>
     ensures lengths { opened result ≡ opening (lines text.now) }
+    ensures place { IfOk result (λ p. line_end text.now + length p.1.now ≡ length text.now) }
     ensures rest { IfOk result (λ p. p.1.now ≡ drop (line_end text.now) text.now) }
     ensures later { IfOk result (λ p. lines p.1.now ≡ later (lines text.now)) }
 {

@@ -1,5 +1,4 @@
 pub mod Accepted
 pub mod EditLaws
-pub mod Found
 pub mod Words
 pub mod Turns

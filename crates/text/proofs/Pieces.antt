@@ -1,7 +1,8 @@
 -- Cutting at the first separator.
-use Rattle.std.proofs.Common.{◌≡◌, ℕ, suc, ◌+◌, ◌<◌, Bool, true, false, not, cond, eqb, drop, List, [], ◌∷◌, ◌++◌, length, refl, ap, ◌∙◌, arith}
+use Rattle.std.proofs.Common.{◌≡◌, ℕ, suc, ◌+◌, ◌<◌, ◌≤◌, Bool, true, false, not, cond, eqb, drop, List, [], ◌∷◌, ◌++◌, length, refl, ap, ◌∙◌, arith}
 use Rattle.std.specs.List.{All, position_or_len, after_first}
 use Rattle.std.proofs.lemmas.Bool.{cond-false, eq-eqb}
+use Rattle.std.proofs.lemmas.List.{length-drop}
 use Rattle.std.proofs.lemmas.List.Elements.{All-head, All-tail}
 use Rattle.std.proofs.lemmas.List.Splits.{slice_split_at, slice_split_none, length-slice_split}
 use Rattle.text.specs.Letters.{feed}
@@ -52,3 +53,11 @@ line_end_rest (b ∷ bs) =
 pub line_end_cut : (p q : List ℕ) → Lacks feed p → line_end (p ++ feed ∷ q) ≡ length p + 1
 line_end_cut [] q x = refl
 line_end_cut (b ∷ p) q x = cond-false (eqb b feed) _ _ (All-head (Other feed) b p x) ∙ omega (arith, line_end_cut p q (All-tail (Other feed) b p x))
+
+-- the first line is within the text
+pub line_end_le : (text : List ℕ) → line_end text ≤ length text
+line_end_le [] = omega arith
+line_end_le (b ∷ bs) = let later = line_end_le bs in elim (eqb b feed) as (λ e. cond e 1 (1 + line_end bs) ≤ length (b ∷ bs)) [ true ↦ omega arith | false ↦ omega (arith, later) ]
+
+pub line_end_splits : (text rest : List ℕ) → rest ≡ drop (line_end text) text → line_end text + length rest ≡ length text
+line_end_splits text rest is = omega (arith, ap length is, length-drop (line_end text) text, line_end_le text)

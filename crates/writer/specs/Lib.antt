@@ -1,3 +1,2 @@
-pub mod Digits
 pub mod LinksFrom
 pub mod Unwritten

@@ -38,6 +38,9 @@ impl<const N: usize> Line<N> {
     }
 
     /// Writes the line into a buffer that has room for it, from `at` on, and answers the place after it.
+    ///
+    /// Inlined, so that the fields of a line that its caller makes are not laid out in memory first.
+    #[inline(always)]
     pub(crate) fn put(&self, out: &mut [u8], at: usize) -> usize
         requires { at + length self.now ≤ length out.old }
         ensures end { result ≡ at + length self.now }
