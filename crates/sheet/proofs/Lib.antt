@@ -1,4 +1,5 @@
 pub mod Accepted
 pub mod EditLaws
+pub mod Found
 pub mod Words
 pub mod Turns

@@ -1,3 +1,4 @@
+mod Bounds
 mod Digits
 mod LinksFrom
 mod SheetText

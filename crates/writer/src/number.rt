@@ -7,7 +7,7 @@ pub(crate) fn number_len(number: u32) -> usize
     ensures value { result ≡ length (decimal number) }
     ensures short { result ≤ 10 }
 {
-    // By cases for the numbers of words and lengths: what is written after a number waits for its length, and a logarithm takes longer.
+    // By cases for the numbers of words and lengths, where `ilog10` alone takes longer.
     match number {
         0..=9 => 1,
         10..=99 => 2,
